@@ -1,0 +1,3 @@
+pub mod Figures
+pub mod Refusals
+pub mod Rings
