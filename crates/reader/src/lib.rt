@@ -1,0 +1,3 @@
+// Reading records from bytes: each reader answers exactly what its definition says of the bytes.
+mod certificates;
+mod fields;

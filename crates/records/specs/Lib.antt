@@ -1,0 +1,9 @@
+pub mod Numbers
+pub mod Lists
+pub mod Blanks
+pub mod Marks
+pub mod Writing
+pub mod Reading
+pub mod Chain
+pub mod Range
+pub mod Statements
