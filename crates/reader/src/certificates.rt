@@ -1,9 +1,9 @@
 // Certificates: a proposal, the mask of a quorum, and its seals by rising station.
 ghost use mathlib.Core.Path.{_≡_};
-ghost use Prim.Native.Nat.{_≤_, _<_, _+_};
+ghost use Prim.Native.Nat.{ℕ, _≤_, _<_, _+_};
 ghost use Rattle.quorum.specs.Rings.{stations-of};
 ghost use Rattle.std.specs.Vec.{made};
-ghost use Rattle.records.specs.Reading.{slot-at, seals-at, certificate-at, certificate-size, commit-at, prepared-at, several, listed-at};
+ghost use Rattle.records.specs.Reading.{slot-at, seals-at, certificate-at, certificate-size, listed-at, commit-at, gathered-at, prepared-at};
 use crate::fields::proposal_at;
 use crate::fields::u16_at;
 use crate::fields::u64_at;
@@ -14,6 +14,7 @@ use records::certificate::Certificate;
 use records::few::Few;
 
 const PLACES: usize = 10;
+const MOST_PREPARED: usize = 8;
 
 // The seal of station i, where the mask shows it, and the place after it.
 fn slot_at(bytes: &[u8], mask: u16, i: usize, at: usize) -> Result<(Option<u64>, usize), Fault>
@@ -58,7 +59,62 @@ pub(crate) fn certificate_at(ring: Ring, bytes: &[u8], at: usize) -> Result<Cert
 
 pub(crate) fn certificate_size(ring: Ring) -> usize
     ensures value { λ r. ⌜ r ≡ certificate-size (stations-of ring) ⌝ }
-    ensures bound { λ r. ⌜ r ≤ 120 ⌝ }
+    ensures bound { λ r. ⌜ r ≤ 96 ⌝ }
 {
     40 + 8 * ring.quorum() as usize
+}
+
+// A certificate, and the place after it.
+fn listed_at(ring: Ring, bytes: &[u8], at: usize) -> Result<(Certificate, usize), Fault>
+    requires { ⌜ at ≤ 7800 ⌝ }
+    ensures value { λ r. ⌜ ((i : ℕ) → r ≡ listed-at (stations-of ring) (now (bytes .entry)) i at) ⌝ }
+    ensures bound { λ r. ⌜ made r (λ p. p .1 ≤ at + 96) ⌝ }
+{
+    let certificate = certificate_at(ring, bytes, at)?;
+    Ok((certificate, at + certificate_size(ring)))
+}
+
+// None or one certificate after its count, and the place after it.
+pub(crate) fn commit_at(ring: Ring, bytes: &[u8], at: usize) -> Result<(Option<Certificate>, usize), Fault>
+    requires { ⌜ at ≤ 7700 ⌝ }
+    ensures value { λ r. ⌜ r ≡ commit-at (stations-of ring) (now (bytes .entry)) at ⌝ }
+    ensures bound { λ r. ⌜ made r (λ p. p .1 ≤ at + 97) ⌝ }
+{
+    match u8_at(bytes, at)? {
+        0 => Ok((None, at + 1)),
+        1 => {
+            let certificate = certificate_at(ring, bytes, at + 1)?;
+            Ok((Some(certificate), at + 1 + certificate_size(ring)))
+        }
+        _ => Err(Fault::Unreadable(at)),
+    }
+}
+
+// So many certificates one after another, and the place after them.
+fn certificates_at(ring: Ring, bytes: &[u8], at: usize, count: usize) -> Result<(Few<Certificate, 8>, usize), Fault>
+    requires { ⌜ at ≤ 6500 ⌝ ∗ ⌜ count ≤ 8 ⌝ }
+    ensures value { λ r. ⌜ r ≡ gathered-at (stations-of ring) (now (bytes .entry)) at count ⌝ }
+    ensures bound { λ r. ⌜ made r (λ p. p .1 ≤ at + 768) ⌝ }
+{
+    let mut certificates = Few::new(Certificate::BLANK);
+    let mut place = at;
+    for _i in 0..count {
+        let (certificate, next) = listed_at(ring, bytes, place)?;
+        certificates.push(certificate);
+        place = next;
+    }
+    Ok((certificates, place))
+}
+
+// None to eight certificates after their count, and the place after them.
+pub(crate) fn prepared_at(ring: Ring, bytes: &[u8], at: usize) -> Result<(Few<Certificate, 8>, usize), Fault>
+    requires { ⌜ at ≤ 6400 ⌝ }
+    ensures value { λ r. ⌜ r ≡ prepared-at (stations-of ring) (now (bytes .entry)) at ⌝ }
+    ensures bound { λ r. ⌜ made r (λ p. p .1 ≤ at + 769) ⌝ }
+{
+    let count = u8_at(bytes, at)? as usize;
+    if count > MOST_PREPARED {
+        return Err(Fault::Unreadable(at));
+    }
+    certificates_at(ring, bytes, at + 1, count)
 }

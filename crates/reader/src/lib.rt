@@ -1,3 +1,5 @@
 // Reading records from bytes: each reader answers exactly what its definition says of the bytes.
+mod bodies;
 mod certificates;
 mod fields;
+pub mod reading;

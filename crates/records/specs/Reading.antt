@@ -118,12 +118,15 @@ commit-at n bs at =
 abbrev pub listed-at : ℕ → List ℕ → ℕ → ℕ → Result (Certificate × ℕ) Fault
 listed-at n bs i at = certificate-at n bs at then (λ c. Ok (c, at + certificate-size n))
 
+-- so many certificates, one after another
+abbrev pub gathered-at : ℕ → List ℕ → ℕ → ℕ → Result (Few Certificate 8 × ℕ) Fault
+gathered-at n bs at count =
+    several (listed-at n bs) at count then (λ cs. Ok (filled blank-certificate 8 (cs .0), cs .1))
+
 -- a count of 0 to 8, and that many certificates
 abbrev pub prepared-at : ℕ → List ℕ → ℕ → Result (Few Certificate 8 × ℕ) Fault
 prepared-at n bs at =
-    number-at 1 bs at then (λ count. check (leb count 8) at (
-    several (listed-at n bs) (at + 1) count then (λ cs.
-    Ok (filled blank-certificate 8 (cs .0), cs .1))))
+    number-at 1 bs at then (λ count. check (leb count 8) at (gathered-at n bs (at + 1) count))
 
 -- a view state, with the place after it
 abbrev pub state-at : ℕ → List ℕ → ℕ → Result (ViewState × ℕ) Fault
@@ -179,16 +182,21 @@ failure-in bs =
 abbrev pub member-at : ℕ → List ℕ → ℕ → ℕ → Result (ViewState × ℕ) Fault
 member-at n bs i at = state-at n bs at
 
+-- so many view states, one after another
+abbrev pub members-at : ℕ → List ℕ → ℕ → ℕ → Result (Few ViewState 7 × ℕ) Fault
+members-at n bs at count =
+    several (member-at n bs) at count then (λ states. Ok (filled blank-state 7 (states .0), states .1))
+
 -- a new view, with the place after it; its count is the ring's quorum
 abbrev pub new-view-in : ℕ → List ℕ → Result (NewView × ℕ) Fault
 new-view-in n bs =
     number-at 1 bs 2 then (λ sender.
     view-at 1 last-view bs 3 then (λ view.
     number-at 1 bs 7 then (λ count. check (eqb count (quorum-of n)) 7 (
-    several (member-at n bs) 8 count then (λ states.
+    members-at n bs 8 count then (λ states.
     number-at 8 bs (states .1) then (λ seal.
     Ok
-    ( record { sender = sender; view = view; states = filled blank-state 7 (states .0); seal = seal }
+    ( record { sender = sender; view = view; states = states .0; seal = seal }
     , states .1 + 8)))))))
 
 -- a call takes only some marks; any other is a fault at the mark
@@ -255,7 +263,7 @@ record-behind n bs mark.NewView = sent (arrival-behind n bs mark.NewView)
 abbrev pub whole : {A : Type 0} → List ℕ → A × ℕ → Result A Fault
 whole bs got = check (eqb (length bs) (got .1)) (got .1) (Ok (got .0))
 
--- the bytes as exactly one request, one inform, one record that stations send each other, one record of any kind
+-- the bytes as exactly one request, one inform, one record that stations send each other
 abbrev pub request-of : List ℕ → Result Request Fault
 request-of bs = mark-at bs then (λ m. request-behind bs m then (λ got. whole bs got))
 
@@ -265,12 +273,13 @@ inform-of bs = mark-at bs then (λ m. inform-behind bs m then (λ got. whole bs 
 abbrev pub arrival-of : ℕ → List ℕ → Result Arrival Fault
 arrival-of n bs = mark-at bs then (λ m. arrival-behind n bs m then (λ got. whole bs got))
 
-abbrev pub record-of : ℕ → List ℕ → Result Record Fault
-record-of n bs = mark-at bs then (λ m. record-behind n bs m then (λ got. whole bs got))
-
 -- the first whole record that the bytes begin with, and the place after it
 abbrev pub first-of : ℕ → List ℕ → Result (Record × ℕ) Fault
 first-of n bs = mark-at bs then (λ m. record-behind n bs m)
+
+-- the bytes as exactly one record of any kind
+abbrev pub record-of : ℕ → List ℕ → Result Record Fault
+record-of n bs = first-of n bs then (λ got. whole bs got)
 
 -- the part of the bytes that holds their first whole record, for a ring of n stations
 abbrev pub frame-of : ℕ → List ℕ → Result (List ℕ) Fault

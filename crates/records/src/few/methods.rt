@@ -1,6 +1,7 @@
 // How a short list is made, grown and read.
 ghost use mathlib.Core.Path.{_≡_};
-ghost use lib.ListN.{take};
+ghost use Prim.Native.Nat.{_≤_};
+ghost use lib.ListN.{length};
 ghost use Rattle.records.specs.Lists.{listed, bare, pushed};
 use crate::few::Few;
 
@@ -24,7 +25,8 @@ impl<T: Copy, const N: usize> Few<T, N> {
     }
 
     pub fn as_slice(&self) -> &[T]
-        ensures { λ r. ⌜ now r ≡ listed (now (self .entry)) ⌝ }
+        ensures value { λ r. ⌜ now r ≡ listed (now (self .entry)) ⌝ }
+        ensures bound { λ r. ⌜ length (now r) ≤ N ⌝ }
     {
         let all = &self.items[..];
         if self.len < all.len() { &all[0..self.len] } else { all }

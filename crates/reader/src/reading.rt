@@ -1,0 +1,163 @@
+// Bytes as exactly one record that a call takes.
+ghost use mathlib.Core.Path.{_≡_};
+ghost use Prim.Native.Nat.{ℕ};
+ghost use lib.Dec.{eqb};
+ghost use lib.ListN.{length};
+ghost use Rattle.std.specs.declared.result.Result.the-variants.{Ok};
+ghost use Rattle.quorum.specs.Rings.{stations-of};
+ghost use Rattle.records.specs.Reading.{check, mark-at, request-behind, inform-behind, arrival-behind, record-behind, request-of, inform-of, arrival-of, record-of, first-of};
+use crate::bodies::check_commit_in;
+use crate::bodies::failure_in;
+use crate::bodies::inform_in;
+use crate::bodies::new_view_in;
+use crate::bodies::prepare_in;
+use crate::bodies::propose_in;
+use crate::bodies::state_at;
+use crate::certificates::certificate_size;
+use crate::fields::request_at;
+use crate::fields::u16_at;
+use quorum::figures::Ring;
+use quorum::refusal::Fault;
+use records::arrivals::Arrival;
+use records::arrivals::Inform;
+use records::arrivals::Record;
+use records::marks;
+use records::marks::Mark;
+use records::request::Request;
+
+// where a request, a proposal's record, an inform and a failure end
+const REQUEST_END: usize = 32;
+const CLAIM_END: usize = 49;
+const INFORM_END: usize = 57;
+const FAILURE_END: usize = 15;
+// a check commit's bytes around its certificate
+const CHECK_COMMIT_REST: usize = 11;
+
+fn mark_at(bytes: &[u8]) -> Result<Mark, Fault>
+    ensures { λ r. ⌜ r ≡ mark-at (now (bytes .entry)) ⌝ }
+{
+    match u16_at(bytes, 0)? {
+        marks::RQ => Ok(Mark::Request),
+        marks::PP => Ok(Mark::Propose),
+        marks::PE => Ok(Mark::Prepare),
+        marks::CC => Ok(Mark::CheckCommit),
+        marks::IN => Ok(Mark::Inform),
+        marks::FA => Ok(Mark::Failure),
+        marks::VS => Ok(Mark::ViewState),
+        marks::NV => Ok(Mark::NewView),
+        _ => Err(Fault::Unreadable(0)),
+    }
+}
+
+fn request_behind(bytes: &[u8], mark: Mark) -> Result<(Request, usize), Fault>
+    ensures { λ r. ⌜ r ≡ request-behind (now (bytes .entry)) mark ⌝ }
+{
+    match mark {
+        Mark::Request => Ok((request_at(bytes, 2)?, REQUEST_END)),
+        _ => Err(Fault::Unreadable(0)),
+    }
+}
+
+fn inform_behind(bytes: &[u8], mark: Mark) -> Result<(Inform, usize), Fault>
+    ensures { λ r. ⌜ r ≡ inform-behind (now (bytes .entry)) mark ⌝ }
+{
+    match mark {
+        Mark::Inform => Ok((inform_in(bytes)?, INFORM_END)),
+        _ => Err(Fault::Unreadable(0)),
+    }
+}
+
+fn arrival_behind(ring: Ring, bytes: &[u8], mark: Mark) -> Result<(Arrival, usize), Fault>
+    ensures { λ r. ⌜ r ≡ arrival-behind (stations-of ring) (now (bytes .entry)) mark ⌝ }
+{
+    match mark {
+        Mark::Propose => Ok((Arrival::Propose(propose_in(bytes)?), CLAIM_END)),
+        Mark::Prepare => Ok((Arrival::Prepare(prepare_in(bytes)?), CLAIM_END)),
+        Mark::CheckCommit => {
+            let check = check_commit_in(ring, bytes)?;
+            Ok((Arrival::CheckCommit(check), CHECK_COMMIT_REST + certificate_size(ring)))
+        }
+        Mark::Failure => Ok((Arrival::Failure(failure_in(bytes)?), FAILURE_END)),
+        Mark::ViewState => {
+            let (state, end) = state_at(ring, bytes, 0)?;
+            Ok((Arrival::ViewState(state), end))
+        }
+        Mark::NewView => {
+            let (view, end) = new_view_in(ring, bytes)?;
+            Ok((Arrival::NewView(view), end))
+        }
+        Mark::Request | Mark::Inform => Err(Fault::Unreadable(0)),
+    }
+}
+
+fn record_behind(ring: Ring, bytes: &[u8], mark: Mark) -> Result<(Record, usize), Fault>
+    ensures { λ r. ⌜ r ≡ record-behind (stations-of ring) (now (bytes .entry)) mark ⌝ }
+{
+    match mark {
+        Mark::Request => {
+            let (request, end) = request_behind(bytes, mark)?;
+            Ok((Record::Request(request), end))
+        }
+        Mark::Inform => {
+            let (inform, end) = inform_behind(bytes, mark)?;
+            Ok((Record::Inform(inform), end))
+        }
+        _ => {
+            let (arrival, end) = arrival_behind(ring, bytes, mark)?;
+            Ok((Record::Arrival(arrival), end))
+        }
+    }
+}
+
+// Nothing may stand after the record.
+fn ends_at(bytes: &[u8], end: usize) -> Result<(), Fault>
+    ensures { λ r. ⌜ r ≡ check (eqb (length (now (bytes .entry))) end) end (Ok tt) ⌝ }
+{
+    if bytes.len() != end {
+        return Err(Fault::Unreadable(end));
+    }
+    Ok(())
+}
+
+// The bytes as one request.
+pub fn read_request(bytes: &[u8]) -> Result<Request, Fault>
+    ensures { λ r. ⌜ r ≡ request-of (now (bytes .entry)) ⌝ }
+{
+    let (request, end) = request_behind(bytes, mark_at(bytes)?)?;
+    ends_at(bytes, end)?;
+    Ok(request)
+}
+
+// The bytes as one inform.
+pub fn read_inform(bytes: &[u8]) -> Result<Inform, Fault>
+    ensures { λ r. ⌜ r ≡ inform-of (now (bytes .entry)) ⌝ }
+{
+    let (inform, end) = inform_behind(bytes, mark_at(bytes)?)?;
+    ends_at(bytes, end)?;
+    Ok(inform)
+}
+
+// The bytes as one record that stations send each other.
+pub fn read_arrival(ring: Ring, bytes: &[u8]) -> Result<Arrival, Fault>
+    ensures { λ r. ⌜ r ≡ arrival-of (stations-of ring) (now (bytes .entry)) ⌝ }
+{
+    let (arrival, end) = arrival_behind(ring, bytes, mark_at(bytes)?)?;
+    ends_at(bytes, end)?;
+    Ok(arrival)
+}
+
+// The first whole record that the bytes begin with, of any kind, and the place after it.
+pub fn first_record(ring: Ring, bytes: &[u8]) -> Result<(Record, usize), Fault>
+    ensures { λ r. ⌜ r ≡ first-of (stations-of ring) (now (bytes .entry)) ⌝ }
+{
+    record_behind(ring, bytes, mark_at(bytes)?)
+}
+
+// The bytes as one record of any kind.
+pub fn read_record(ring: Ring, bytes: &[u8]) -> Result<Record, Fault>
+    ensures { λ r. ⌜ r ≡ record-of (stations-of ring) (now (bytes .entry)) ⌝ }
+{
+    let (record, end) = first_record(ring, bytes)?;
+    ends_at(bytes, end)?;
+    Ok(record)
+}
