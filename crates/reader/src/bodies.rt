@@ -5,7 +5,6 @@ ghost use Rattle.quorum.specs.Rings.{stations-of};
 ghost use Rattle.std.specs.Vec.{made};
 ghost use Rattle.records.specs.Reading.{propose-in, prepare-in, check-commit-in, inform-in, failure-in, state-at, members-at, new-view-in};
 use crate::certificates::certificate_at;
-use crate::certificates::certificate_size;
 use crate::certificates::commit_at;
 use crate::certificates::prepared_at;
 use crate::fields::LAST_VIEW;
@@ -24,6 +23,7 @@ use records::arrivals::Propose;
 use records::arrivals::NewView;
 use records::arrivals::ViewState;
 use records::few::Few;
+use records::certificate::sizes::certificate_size;
 use records::marks;
 
 // a view that can still fail, so that there is one after it

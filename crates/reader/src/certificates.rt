@@ -3,7 +3,7 @@ ghost use mathlib.Core.Path.{_≡_};
 ghost use Prim.Native.Nat.{ℕ, _≤_, _<_, _+_};
 ghost use Rattle.quorum.specs.Rings.{stations-of};
 ghost use Rattle.std.specs.Vec.{made};
-ghost use Rattle.records.specs.Reading.{slot-at, seals-at, certificate-at, certificate-size, listed-at, commit-at, gathered-at, prepared-at};
+ghost use Rattle.records.specs.Reading.{slot-at, seals-at, certificate-at, listed-at, commit-at, gathered-at, prepared-at};
 use crate::fields::proposal_at;
 use crate::fields::u16_at;
 use crate::fields::u64_at;
@@ -11,6 +11,7 @@ use crate::fields::u8_at;
 use quorum::figures::Ring;
 use quorum::refusal::Fault;
 use records::certificate::Certificate;
+use records::certificate::sizes::certificate_size;
 use records::few::Few;
 
 const PLACES: usize = 10;
@@ -55,13 +56,6 @@ pub(crate) fn certificate_at(ring: Ring, bytes: &[u8], at: usize) -> Result<Cert
     }
     let seals = seals_at(bytes, mask, at + 40)?;
     Ok(Certificate { proposal, seals })
-}
-
-pub(crate) fn certificate_size(ring: Ring) -> usize
-    ensures value { λ r. ⌜ r ≡ certificate-size (stations-of ring) ⌝ }
-    ensures bound { λ r. ⌜ r ≤ 96 ⌝ }
-{
-    40 + 8 * ring.quorum() as usize
 }
 
 // A certificate, and the place after it.

@@ -47,13 +47,18 @@ state-link n at s =
     rounds-link n (s .view) (place + 1) (next-round (s .commit)) (listed (s .prepared)) then (λ end.
     Ok (end + 8)))
 
--- the view states of a new view of view w: their senders rise from `low` on
+-- one view state of a new view of view w: its sender is a station from `low` on, and its view is the one before w
+abbrev pub member-link : ℕ → ℕ → ℕ → ℕ → ViewState → Result ℕ Fault
+member-link n w at low s =
+    link (leb low (s .sender) && ltb (s .sender) n) (at + 2) (
+    link (eqb (s .view + 1) w) (at + 3) (
+    state-link n at s))
+
+-- the view states of a new view, whose senders rise from `low` on; the place after them
 abbrev pub states-link : ℕ → ℕ → ℕ → ℕ → List ViewState → Result ℕ Fault
 states-link n w at low [] = Ok at
 states-link n w at low (s ∷ ss) =
-    link (leb low (s .sender) && ltb (s .sender) n) (at + 2) (
-    link (eqb (s .view + 1) w) (at + 3) (
-    state-link n at s then (λ end. states-link n w end (s .sender + 1) ss)))
+    member-link n w at low s then (λ end. states-link n w end (s .sender + 1) ss)
 
 -- the chain rule of a record that arrives; only view states and new views have one
 abbrev pub chain-of : ℕ → Arrival → Result (Unit {0}) Fault

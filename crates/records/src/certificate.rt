@@ -12,3 +12,5 @@ impl Certificate {
     // what fills a place that holds no certificate
     pub const BLANK: Certificate = Certificate { proposal: Proposal::BLANK, seals: [None; 10] };
 }
+
+pub mod sizes;

@@ -1,0 +1,2 @@
+// The chain rule of view states and new views.
+pub mod links;
