@@ -1,0 +1,23 @@
+-- What writing does to memory and to a tray. A tray is memory with a fill: the bytes below the fill are records that
+-- were sent, and nothing is said of those above it.
+use Prim.Native.Nat.{ℕ, _+_, _≤_, _<_}
+use mathlib.Core.Path.{_≡_}
+use mathlib.Core.Bool.{cond}
+use mathlib.Core.List.{List, _++_}
+use lib.Dec.{leb}
+use lib.ListN.{length, take}
+use Rattle.std.specs.declared.result.Result.{Result}
+use Rattle.std.specs.declared.result.Result.the-variants.{Ok, Err}
+use Rattle.quorum.specs.declared.refusal.Fault.{Fault}
+use Rattle.quorum.specs.declared.refusal.Fault.the-variants.{NoRoom}
+
+-- the place after so many bytes, where the memory has room for them
+abbrev pub room : ℕ → ℕ → ℕ → Result ℕ Fault
+room size at many = cond (leb (at + many) size) (Ok (at + many)) (Err NoRoom)
+
+-- bytes put into memory at a place: the answer, and the memory after
+pub record Written (before after : List ℕ) (at : ℕ) (bytes : List ℕ) (answer : Result ℕ Fault) : Type 0 where
+  pub answered : answer ≡ room (length before) at (length bytes)
+  pub long : length after ≡ length before
+  pub below : take at after ≡ take at before
+  pub added : at + length bytes ≤ length before → take (at + length bytes) after ≡ take at before ++ bytes

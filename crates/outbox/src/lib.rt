@@ -1,0 +1,3 @@
+// Writing records into a tray.
+mod certificates;
+mod puts;
