@@ -1,5 +1,5 @@
 -- Parts written one after another are the whole written at once. Assumes nothing.
-use Prim.Native.Nat.{ℕ, _+_, _≤_, _<_}
+use Prim.Native.Nat.{ℕ, _+_, _-_, _≤_, _<_}
 use mathlib.Core.Path.{_≡_, refl, sym, ap, subst, _∙_}
 use mathlib.Core.Bool.{Bool, true, false, cond}
 use mathlib.Core.List.{List, [], _∷_, _++_, append-assoc}
@@ -12,12 +12,13 @@ use Rattle.std.specs.Results.{ErrBy}
 use Rattle.std.proofs.shelf.Results.{err-from-errBy}
 use Rattle.std.specs.declared.result.Result.{Result}
 use Rattle.std.specs.declared.result.Result.the-variants.{Ok, Err}
-use Rattle.std.proofs.shelf.Lists.{take-take, take-append-le, length-take-le, append-nil, take-more, take-all, joined-more, take-append-drop}
+use Rattle.std.proofs.shelf.Lists.{take-take, take-append-le, length-take-le, append-nil, take-more, take-all, joined-more, take-append-drop, drop-at}
+use Rattle.std.proofs.shelf.Parts.{between-is}
 use Rattle.std.proofs.shelf.Ways.{tells}
-use Rattle.std.proofs.shelf.Tests.{cases-lt}
+use Rattle.std.proofs.shelf.Tests.{cond-true, cond-false, le-leb, lt-leb}
 use Rattle.quorum.specs.declared.refusal.Fault.{Fault}
 use Rattle.quorum.specs.declared.refusal.Fault.the-variants.{NoRoom}
-use Rattle.outbox.specs.Trays.{Written, room}
+use Rattle.outbox.specs.Trays.{Written, Sent, room}
 
 -- an answer that gives a place had the room
 pub had-room : (size at many end : ℕ) → Ok end ≡ room size at many → (end ≡ at + many) × (at + many ≤ size)
@@ -116,3 +117,46 @@ module _ {X : Type 0} (f : X → List ℕ) (xs : List X) where
 
   pub loop-all : {m m₁ : List ℕ} {at p i : ℕ} → Written m m₁ at (joined f (take i xs)) (Ok p) → length xs ≤ i → Written m m₁ at (joined f xs) (Ok p)
   loop-all {m} {m₁} {at} {p} {i} v h = subst (λ l. Written m m₁ at (joined f l) (Ok p)) (take-all i xs h) v
+
+-- a record written whole, with the fill behind it
+pub sent-whole : {m m₁ : List ℕ} {used end : ℕ} {xs : List ℕ} (used′ : ℕ) → Written m m₁ used xs (Ok end) → used′ ≡ end → Sent m m₁ used used′ xs (Ok tt)
+sent-whole {m} {m₁} {used} {end} {xs} used′ v e =
+    let had = had-room (length m) used (length xs) end (v .answered) in
+    let fits = had .1 in
+    let is = had .0 in
+    let full : used′ ≡ used + length xs = e ∙ is in
+    let yes-room : leb (used + length xs) (length m) ≡ true = le-leb (used + length xs) (length m) fits in
+    record
+    { answered = sym (cond-true (leb (used + length xs) (length m)) (Ok tt) (Err NoRoom) yes-room)
+    ; filled = full ∙ sym (cond-true (leb (used + length xs) (length m)) (used + length xs) used yes-room)
+    ; below = v .below
+    ; added = v .added
+    }
+
+-- a record without room, with the fill put back
+pub sent-none : {m m₁ : List ℕ} {used : ℕ} {xs : List ℕ} {f : Fault} (used′ : ℕ) (r : Result (Unit {0}) Fault) → ErrBy r (λ e. e ≡ f) → Written m m₁ used xs (Err f) → used′ ≡ used → Sent m m₁ used used′ xs r
+sent-none {m} {m₁} {used} {xs} {f} used′ r e v back =
+    let p = err-from-errBy r e in
+    let none = no-room (length m) used (length xs) f (v .answered) in
+    let no-more : leb (used + length xs) (length m) ≡ false = lt-leb (used + length xs) (length m) (none .1) in
+    record
+    { answered = p .1 ∙ ap Err (p .2 ∙ none .0) ∙ sym (cond-false (leb (used + length xs) (length m)) (Ok tt) (Err NoRoom) no-more)
+    ; filled = back ∙ sym (cond-false (leb (used + length xs) (length m)) (used + length xs) used no-more)
+    ; below = v .below
+    ; added = v .added
+    }
+
+-- what was just written is what the memory shows there
+pub part-seen : {m m₁ : List ℕ} {at b : ℕ} {xs : List ℕ} → Written m m₁ at xs (Ok b) → take (b - at) (drop at m₁) ≡ xs
+part-seen {m} {m₁} {at} {b} {xs} v =
+    let had = had-room (length m) at (length xs) b (v .answered) in
+    let fits : at + length xs ≤ length m = had .1 in
+    let at-long : length (take at m) ≡ at = length-take-le at m (omega arith) in
+    between-is m₁ at b
+    ∙ ap (λ k. drop at (take k m₁)) (had .0)
+    ∙ ap (drop at) (v .added fits)
+    ∙ drop-at (take at m) xs at at-long
+
+-- the same bytes by another name
+pub sent-as : {m m₁ : List ℕ} {used used′ : ℕ} {xs ys : List ℕ} {r : Result (Unit {0}) Fault} → xs ≡ ys → Sent m m₁ used used′ xs r → Sent m m₁ used used′ ys r
+sent-as {m} {m₁} {used} {used′} {xs} {ys} {r} e s = subst (λ bs. Sent m m₁ used used′ bs r) e s

@@ -21,3 +21,10 @@ pub record Written (before after : List ℕ) (at : ℕ) (bytes : List ℕ) (answ
   pub long : length after ≡ length before
   pub below : take at after ≡ take at before
   pub added : at + length bytes ≤ length before → take (at + length bytes) after ≡ take at before ++ bytes
+
+-- a record sent into a tray: it is there whole behind what was sent before, or the tray is as it was up to its fill
+pub record Sent (before after : List ℕ) (used used′ : ℕ) (bytes : List ℕ) (answer : Result (Unit {0}) Fault) : Type 0 where
+  pub answered : answer ≡ cond (leb (used + length bytes) (length before)) (Ok tt) (Err NoRoom)
+  pub filled : used′ ≡ cond (leb (used + length bytes) (length before)) (used + length bytes) used
+  pub below : take used after ≡ take used before
+  pub added : used + length bytes ≤ length before → take (used + length bytes) after ≡ take used before ++ bytes

@@ -1,3 +1,6 @@
 // Writing records into a tray.
+mod bodies;
 mod certificates;
 mod puts;
+pub mod sending;
+pub mod tray;

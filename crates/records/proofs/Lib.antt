@@ -1,3 +1,4 @@
 pub mod Several
 pub mod Wholes
 pub mod Puts
+pub mod Covered

@@ -1,17 +1,16 @@
 -- What a seal says: the kind of its record, and the fields that it covers.
 use Prim.Native.Nat.{ℕ, _≤_}
 use mathlib.Core.Path.{_≡_}
-use mathlib.Core.List.{List, _++_}
+use mathlib.Core.List.{List, [], _++_}
 use lib.ListN.{length}
 use Rattle.std.specs.declared.option.Option.{Option}
-use Rattle.std.specs.Joined.{joined}
 use Rattle.std.specs.shelf.Lists.{All}
 use Rattle.quorum.specs.Figures.{quorum-of}
 use Rattle.records.specs.Lists.{listed}
 use Rattle.records.specs.Numbers.{put}
 use Rattle.records.specs.Reading.{last-view}
 use Rattle.records.specs.Range.{Byte, Bytes, Fits, Right-proposal, Right-certificate, Right-commit, Right-state}
-use Rattle.records.specs.Writing.{mark-bytes, head-bytes, claim-bytes, commit-bytes, prepared-bytes, state-bytes}
+use Rattle.records.specs.Writing.{mark-bytes, head-bytes, claim-bytes, commit-bytes, prepared-bytes, seals-bytes, states-bytes, seal-of}
 use Rattle.records.specs.declared.marks.Mark.the-variants as mark
 use Rattle.records.specs.declared.request.Proposal.{Proposal}
 use Rattle.records.specs.declared.certificate.Certificate.{Certificate}
@@ -61,12 +60,51 @@ said-bytes (informs i p result) = claim-bytes mark.Inform i p ++ put 8 result
 said-bytes (alerts i view) = head-bytes mark.Failure i ++ put 4 view
 said-bytes (leaves i view commit cs) =
     head-bytes mark.ViewState i ++ (put 4 view ++ (commit-bytes commit ++ prepared-bytes cs))
-said-bytes (begins i view ss) =
-    head-bytes mark.NewView i ++ (put 4 view ++ (put 1 (length ss) ++ joined state-bytes ss))
+said-bytes (begins i view ss) = head-bytes mark.NewView i ++ (put 4 view ++ states-bytes ss)
 
 -- the bytes that a record's own seal covers
 abbrev pub covered : Record → List ℕ
 covered r = said-bytes (statement-of r)
+
+-- what stands between the covered bytes and the seal: only a CheckCommit has something there
+unfoldable pub rest-of : Arrival → List ℕ
+rest-of (arrival.Propose p) = []
+rest-of (arrival.Prepare p) = []
+rest-of (arrival.CheckCommit c) = seals-bytes (c .prepared .seals)
+rest-of (arrival.Failure f) = []
+rest-of (arrival.ViewState s) = []
+rest-of (arrival.NewView v) = []
+
+unfoldable pub rest-bytes : Record → List ℕ
+rest-bytes (rec.Request r) = []
+rest-bytes (rec.Inform i) = []
+rest-bytes (rec.Arrival a) = rest-of a
+
+-- the own seal of a record
+abbrev pub own-seal : Record → ℕ
+own-seal (rec.Request r) = r .seal
+own-seal (rec.Inform i) = i .seal
+own-seal (rec.Arrival a) = seal-of a
+
+-- a record under another seal
+abbrev pub resealed : Arrival → ℕ → Arrival
+resealed (arrival.Propose p) seal = arrival.Propose (record { sender = p .sender; proposal = p .proposal; seal = seal })
+resealed (arrival.Prepare p) seal = arrival.Prepare (record { sender = p .sender; proposal = p .proposal; seal = seal })
+resealed (arrival.CheckCommit c) seal =
+    arrival.CheckCommit (record { sender = c .sender; prepared = c .prepared; seal = seal })
+resealed (arrival.Failure f) seal = arrival.Failure (record { sender = f .sender; view = f .view; seal = seal })
+resealed (arrival.ViewState s) seal =
+    arrival.ViewState
+    (record { sender = s .sender; view = s .view; commit = s .commit; prepared = s .prepared; seal = seal })
+resealed (arrival.NewView v) seal =
+    arrival.NewView (record { sender = v .sender; view = v .view; states = v .states; seal = seal })
+
+abbrev pub under-seal : Record → ℕ → Record
+under-seal (rec.Request r) seal =
+    rec.Request (record { client = r .client; sequence = r .sequence; payload = r .payload; seal = seal })
+under-seal (rec.Inform i) seal =
+    rec.Inform (record { sender = i .sender; proposal = i .proposal; result = i .result; seal = seal })
+under-seal (rec.Arrival a) seal = rec.Arrival (resealed a seal)
 
 -- a statement whose fields lie in range, in a ring of n
 abbrev pub Right-statement : ℕ → Statement → Type 0

@@ -76,18 +76,27 @@ state-bytes s = state-body s ++ put 8 (s .seal)
 unfoldable pub claim-bytes : Mark → ℕ → Proposal → List ℕ
 claim-bytes m sender p = head-bytes m sender ++ proposal-bytes p
 
+-- view states, after their count
+unfoldable pub states-bytes : List ViewState → List ℕ
+states-bytes ss = put 1 (length ss) ++ joined state-bytes ss
+
 unfoldable pub new-view-body : NewView → List ℕ
-new-view-body v =
-    head-bytes mark.NewView (v .sender)
-    ++ (put 4 (v .view) ++ (put 1 (length (listed (v .states))) ++ joined state-bytes (listed (v .states))))
+new-view-body v = head-bytes mark.NewView (v .sender) ++ (put 4 (v .view) ++ states-bytes (listed (v .states)))
+
+-- a check commit is a claim with the seals of its certificate
+unfoldable pub check-commit-body : CheckCommit → List ℕ
+check-commit-body c =
+    claim-bytes mark.CheckCommit (c .sender) (c .prepared .proposal) ++ seals-bytes (c .prepared .seals)
+
+unfoldable pub failure-body : Failure → List ℕ
+failure-body f = head-bytes mark.Failure (f .sender) ++ put 4 (f .view)
 
 -- a record without its own seal, which comes last
 unfoldable pub body-bytes : Arrival → List ℕ
 body-bytes (arrival.Propose p) = claim-bytes mark.Propose (p .sender) (p .proposal)
 body-bytes (arrival.Prepare p) = claim-bytes mark.Prepare (p .sender) (p .proposal)
-body-bytes (arrival.CheckCommit c) =
-    claim-bytes mark.CheckCommit (c .sender) (c .prepared .proposal) ++ seals-bytes (c .prepared .seals)
-body-bytes (arrival.Failure f) = head-bytes mark.Failure (f .sender) ++ put 4 (f .view)
+body-bytes (arrival.CheckCommit c) = check-commit-body c
+body-bytes (arrival.Failure f) = failure-body f
 body-bytes (arrival.ViewState s) = state-body s
 body-bytes (arrival.NewView v) = new-view-body v
 

@@ -93,3 +93,5 @@ pub enum Record {
     Inform(Inform),
     Arrival(Arrival),
 }
+
+pub mod seals;
