@@ -19,12 +19,6 @@ impl Ring {
         Ok(Ring { stations: stations as u8 })
     }
 
-    pub fn stations(self) -> u8
-        ensures { λ r. ⌜ r ≡ stations-of self ⌝ }
-    {
-        self.stations
-    }
-
     // f: how many stations may be faulty
     pub fn faults(self) -> u8
         ensures { λ r. ⌜ r ≡ faults-of (stations-of self) ⌝ }
