@@ -1,0 +1,14 @@
+pub mod Numbers
+pub mod Standing
+pub mod Steps
+pub mod Requests
+pub mod Masks
+pub mod Rows
+pub mod Certificates
+pub mod States
+pub mod Marks
+pub mod Records
+pub mod Wholes
+pub mod Sayings
+pub mod Figures
+pub mod Laws
