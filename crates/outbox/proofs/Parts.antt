@@ -16,9 +16,14 @@ use Rattle.std.proofs.shelf.Lists.{take-take, take-append-le, length-take-le, a
 use Rattle.std.proofs.shelf.Parts.{between-is}
 use Rattle.std.proofs.shelf.Ways.{tells}
 use Rattle.std.proofs.shelf.Tests.{cond-true, cond-false, le-leb, lt-leb}
+use Rattle.std.specs.Holes.{between}
+use Rattle.records.specs.Reading.{record-of}
+use Rattle.records.specs.Writing.{record-bytes}
+use Rattle.records.specs.declared.arrivals.Record.{Record}
+use Rattle.codec.proofs.Laws.{record-reads}
 use Rattle.quorum.specs.declared.refusal.Fault.{Fault}
 use Rattle.quorum.specs.declared.refusal.Fault.the-variants.{NoRoom}
-use Rattle.outbox.specs.Trays.{Written, Sent, room}
+use Rattle.outbox.specs.Trays.{Written, Sent, Reads-back, room}
 
 -- an answer that gives a place had the room
 pub had-room : (size at many end : ℕ) → Ok end ≡ room size at many → (end ≡ at + many) × (at + many ≤ size)
@@ -160,3 +165,17 @@ part-seen {m} {m₁} {at} {b} {xs} v =
 -- the same bytes by another name
 pub sent-as : {m m₁ : List ℕ} {used used′ : ℕ} {xs ys : List ℕ} {r : Result (Unit {0}) Fault} → xs ≡ ys → Sent m m₁ used used′ xs r → Sent m m₁ used used′ ys r
 sent-as {m} {m₁} {used} {used′} {xs} {ys} {r} e s = subst (λ bs. Sent m m₁ used used′ bs r) e s
+
+-- what was sent is what the tray shows from the old fill to the new, so it reads back
+pub sent-back : {m m₁ : List ℕ} {used used′ : ℕ} (sent : Record) (r : Result (Unit {0}) Fault) → Sent m m₁ used used′ (record-bytes sent) r → Reads-back m₁ used used′ sent r
+sent-back {m} {m₁} {used} {used′} sent (Ok u) s = λ n some few right.
+    let fits : used + length (record-bytes sent) ≤ length m = let a = s .answered in grind (arith, tells) in
+    let ends : used′ ≡ used + length (record-bytes sent) = let f = s .filled in grind (arith, tells) in
+    let at-long : length (take used m) ≡ used = length-take-le used m (omega arith) in
+    let shown : between used used′ m₁ ≡ record-bytes sent =
+      between-is m₁ used used′
+      ∙ ap (λ k. drop used (take k m₁)) ends
+      ∙ ap (drop used) (s .added fits)
+      ∙ drop-at (take used m) (record-bytes sent) used at-long in
+    ap (record-of n) shown ∙ record-reads n some few sent right
+sent-back sent (Err f) s = tt

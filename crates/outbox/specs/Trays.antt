@@ -8,6 +8,11 @@ use lib.Dec.{leb}
 use lib.ListN.{length, take}
 use Rattle.std.specs.declared.result.Result.{Result}
 use Rattle.std.specs.declared.result.Result.the-variants.{Ok, Err}
+use Rattle.std.specs.Holes.{between}
+use Rattle.std.specs.Vec.{made}
+use Rattle.records.specs.Range.{Right-record}
+use Rattle.records.specs.Reading.{record-of}
+use Rattle.records.specs.declared.arrivals.Record.{Record}
 use Rattle.quorum.specs.declared.refusal.Fault.{Fault}
 use Rattle.quorum.specs.declared.refusal.Fault.the-variants.{NoRoom}
 
@@ -28,3 +33,9 @@ pub record Sent (before after : List ℕ) (used used′ : ℕ) (bytes : List ℕ
   pub filled : used′ ≡ cond (leb (used + length bytes) (length before)) (used + length bytes) used
   pub below : take used after ≡ take used before
   pub added : used + length bytes ≤ length before → take (used + length bytes) after ≡ take used before ++ bytes
+
+-- what was sent reads back from the tray as the record that it was, in every ring in which the record's fields are in
+-- range
+abbrev pub Reads-back : List ℕ → ℕ → ℕ → Record → Result (Unit {0}) Fault → Type 0
+Reads-back after used used′ sent r =
+    made r (λ _. (n : ℕ) → 1 ≤ n → n ≤ 10 → Right-record n sent → record-of n (between used used′ after) ≡ Ok sent)

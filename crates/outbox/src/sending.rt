@@ -1,5 +1,5 @@
 // Records sent into a tray, each whole or not at all.
-ghost use Rattle.outbox.specs.Trays.{Sent};
+ghost use Rattle.outbox.specs.Trays.{Sent, Reads-back};
 ghost use Rattle.records.specs.Writing.{record-bytes};
 ghost use Rattle.records.specs.Statements.{covered, under-seal};
 use crate::bodies::put_covered;
@@ -13,7 +13,8 @@ use seal_box::SealBox;
 
 // A record under the seal that it holds.
 pub fn write(message: &Record, memory: &mut [u8], fill: &mut Fill) -> Result<(), Fault>
-    ensures { λ r. ⌜ Sent (now (memory .entry)) (now (memory .exit)) (now (fill .entry) .used) (now (fill .exit) .used) (record-bytes (now (message .entry))) r ⌝ }
+    ensures sent { λ r. ⌜ Sent (now (memory .entry)) (now (memory .exit)) (now (fill .entry) .used) (now (fill .exit) .used) (record-bytes (now (message .entry))) r ⌝ }
+    ensures back { λ r. ⌜ Reads-back (now (memory .exit)) (now (fill .entry) .used) (now (fill .exit) .used) (now (message .entry)) r ⌝ }
 {
     let start = fill.used;
     let mut draft = Draft { fill, start, closed: false };
@@ -29,7 +30,8 @@ pub fn write(message: &Record, memory: &mut [u8], fill: &mut Fill) -> Result<(),
 
 // A record under a seal box's own seal, whatever seal it holds: the box seals the part of the tray just written.
 pub fn send<B: SealBox>(seals: &B, message: &Record, memory: &mut [u8], fill: &mut Fill) -> Result<(), Fault>
-    ensures { λ r. ⌜ Sent (now (memory .entry)) (now (memory .exit)) (now (fill .entry) .used) (now (fill .exit) .used) (record-bytes (under-seal (now (message .entry)) (tag (now (seals .entry)) (covered (now (message .entry)))))) r ⌝ }
+    ensures sent { λ r. ⌜ Sent (now (memory .entry)) (now (memory .exit)) (now (fill .entry) .used) (now (fill .exit) .used) (record-bytes (under-seal (now (message .entry)) (tag (now (seals .entry)) (covered (now (message .entry)))))) r ⌝ }
+    ensures back { λ r. ⌜ Reads-back (now (memory .exit)) (now (fill .entry) .used) (now (fill .exit) .used) (under-seal (now (message .entry)) (tag (now (seals .entry)) (covered (now (message .entry))))) r ⌝ }
 {
     let start = fill.used;
     let mut draft = Draft { fill, start, closed: false };

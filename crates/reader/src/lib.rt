@@ -2,4 +2,5 @@
 mod bodies;
 mod certificates;
 mod fields;
+pub mod framing;
 pub mod reading;

@@ -6,6 +6,7 @@ ghost use lib.ListN.{length};
 ghost use Rattle.std.specs.declared.result.Result.the-variants.{Ok};
 ghost use Rattle.quorum.specs.Rings.{stations-of};
 ghost use Rattle.records.specs.Reading.{check, mark-at, request-behind, inform-behind, arrival-behind, record-behind, request-of, inform-of, arrival-of, record-of, first-of};
+ghost use Rattle.reader.specs.Backs.{Request-from, Inform-from, Arrival-from, Record-from, First-from};
 use crate::bodies::check_commit_in;
 use crate::bodies::failure_in;
 use crate::bodies::inform_in;
@@ -119,8 +120,7 @@ fn ends_at(bytes: &[u8], end: usize) -> Result<(), Fault>
     Ok(())
 }
 
-// The bytes as one request.
-pub fn read_request(bytes: &[u8]) -> Result<Request, Fault>
+fn whole_request(bytes: &[u8]) -> Result<Request, Fault>
     ensures { λ r. ⌜ r ≡ request-of (now (bytes .entry)) ⌝ }
 {
     let (request, end) = request_behind(bytes, mark_at(bytes)?)?;
@@ -128,8 +128,7 @@ pub fn read_request(bytes: &[u8]) -> Result<Request, Fault>
     Ok(request)
 }
 
-// The bytes as one inform.
-pub fn read_inform(bytes: &[u8]) -> Result<Inform, Fault>
+fn whole_inform(bytes: &[u8]) -> Result<Inform, Fault>
     ensures { λ r. ⌜ r ≡ inform-of (now (bytes .entry)) ⌝ }
 {
     let (inform, end) = inform_behind(bytes, mark_at(bytes)?)?;
@@ -137,8 +136,7 @@ pub fn read_inform(bytes: &[u8]) -> Result<Inform, Fault>
     Ok(inform)
 }
 
-// The bytes as one record that stations send each other.
-pub fn read_arrival(ring: Ring, bytes: &[u8]) -> Result<Arrival, Fault>
+fn whole_arrival(ring: Ring, bytes: &[u8]) -> Result<Arrival, Fault>
     ensures { λ r. ⌜ r ≡ arrival-of (stations-of ring) (now (bytes .entry)) ⌝ }
 {
     let (arrival, end) = arrival_behind(ring, bytes, mark_at(bytes)?)?;
@@ -146,18 +144,56 @@ pub fn read_arrival(ring: Ring, bytes: &[u8]) -> Result<Arrival, Fault>
     Ok(arrival)
 }
 
-// The first whole record that the bytes begin with, of any kind, and the place after it.
-pub fn first_record(ring: Ring, bytes: &[u8]) -> Result<(Record, usize), Fault>
+fn first_behind(ring: Ring, bytes: &[u8]) -> Result<(Record, usize), Fault>
     ensures { λ r. ⌜ r ≡ first-of (stations-of ring) (now (bytes .entry)) ⌝ }
 {
     record_behind(ring, bytes, mark_at(bytes)?)
 }
 
-// The bytes as one record of any kind.
-pub fn read_record(ring: Ring, bytes: &[u8]) -> Result<Record, Fault>
+fn whole_record(ring: Ring, bytes: &[u8]) -> Result<Record, Fault>
     ensures { λ r. ⌜ r ≡ record-of (stations-of ring) (now (bytes .entry)) ⌝ }
 {
-    let (record, end) = first_record(ring, bytes)?;
+    let (record, end) = first_behind(ring, bytes)?;
     ends_at(bytes, end)?;
     Ok(record)
+}
+
+// The bytes as one request; what is read is in range, and writing it gives the bytes again.
+pub fn read_request(bytes: &[u8]) -> Result<Request, Fault>
+    ensures value { λ r. ⌜ r ≡ request-of (now (bytes .entry)) ⌝ }
+    ensures back { λ r. ⌜ Request-from (now (bytes .entry)) r ⌝ }
+{
+    whole_request(bytes)
+}
+
+// The bytes as one inform; what is read is in range, and writing it gives the bytes again.
+pub fn read_inform(bytes: &[u8]) -> Result<Inform, Fault>
+    ensures value { λ r. ⌜ r ≡ inform-of (now (bytes .entry)) ⌝ }
+    ensures back { λ r. ⌜ Inform-from (now (bytes .entry)) r ⌝ }
+{
+    whole_inform(bytes)
+}
+
+// The bytes as one record that stations send each other; it is in range, and writing it gives the bytes again.
+pub fn read_arrival(ring: Ring, bytes: &[u8]) -> Result<Arrival, Fault>
+    ensures value { λ r. ⌜ r ≡ arrival-of (stations-of ring) (now (bytes .entry)) ⌝ }
+    ensures back { λ r. ⌜ Arrival-from (stations-of ring) (now (bytes .entry)) r ⌝ }
+{
+    whole_arrival(ring, bytes)
+}
+
+// The bytes as one record of any kind; it is in range, and writing it gives the bytes again.
+pub fn read_record(ring: Ring, bytes: &[u8]) -> Result<Record, Fault>
+    ensures value { λ r. ⌜ r ≡ record-of (stations-of ring) (now (bytes .entry)) ⌝ }
+    ensures back { λ r. ⌜ Record-from (stations-of ring) (now (bytes .entry)) r ⌝ }
+{
+    whole_record(ring, bytes)
+}
+
+// The first whole record that the bytes begin with, of any kind, and the place after it.
+pub fn first_record(ring: Ring, bytes: &[u8]) -> Result<(Record, usize), Fault>
+    ensures value { λ r. ⌜ r ≡ first-of (stations-of ring) (now (bytes .entry)) ⌝ }
+    ensures back { λ r. ⌜ First-from (stations-of ring) (now (bytes .entry)) r ⌝ }
+{
+    first_behind(ring, bytes)
 }

@@ -1,9 +1,9 @@
--- What was read to the end is the answer.
-use mathlib.Core.Path.{sym, _∙_}
-use Rattle.records.proofs.Wholes.{ends-whole}
+-- The answer is the inner reader's; the laws of the format say the rest.
+use Rattle.reader.proofs.Backs.{all-bytes, arrival-from}
 use Rattle.reader.proofs.reading.read_arrival.Needs as need
 
 pub returns : need.returns
-returns c =
-    let m = sym (c .mark-at .ensures) ∙ c .in-Continue-mark-at .was tt in
-    rw m (ends-whole _ _ _ _ _ (sym (c .arrival-behind .ensures) ∙ c .in-Continue-arrival .was tt) (sym (c .ends-at .ensures) ∙ c .in-Continue-ends-at .was tt))
+returns c = record
+  { value = c .whole-arrival .ensures
+  ; back = arrival-from _ (c .args .ring .some) (c .args .ring .few) (c .args .bytes .now) (all-bytes (c .args .bytes .now) (c .typed .bytes)) (c .whole-arrival .result) (c .whole-arrival .ensures)
+  }

@@ -1,8 +1,9 @@
--- What was read to the end is the answer.
-use mathlib.Core.Path.{sym, _∙_}
-use Rattle.records.proofs.Wholes.{ends-whole}
+-- The answer is the inner reader's; the laws of the format say the rest.
+use Rattle.reader.proofs.Backs.{all-bytes, record-from}
 use Rattle.reader.proofs.reading.read_record.Needs as need
 
 pub returns : need.returns
-returns c =
-    ends-whole _ _ _ _ _ (sym (c .first-record .ensures) ∙ c .in-Continue-record .was tt) (sym (c .ends-at .ensures) ∙ c .in-Continue-ends-at .was tt)
+returns c = record
+  { value = c .whole-record .ensures
+  ; back = record-from _ (c .args .ring .some) (c .args .ring .few) (c .args .bytes .now) (all-bytes (c .args .bytes .now) (c .typed .bytes)) (c .whole-record .result) (c .whole-record .ensures)
+  }
