@@ -35,8 +35,7 @@ fn show_place(rt: &LibcRuntime, stations: usize, fault: Fault, bytes: &[u8]) -> 
         return println!(rt, "  a ring has 1 to 10 stations, not {stations}");
     }
     if place >= bytes.len() {
-        let size = bytes.len();
-        return println!(rt, "  at {place}: the input ends after {size} bytes");
+        return println!(rt, "  at {place}: the input ends here");
     }
     print!(rt, "  at {place}: ")?;
     for b in bytes.iter().skip(place).take(8) {
