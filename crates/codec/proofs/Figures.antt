@@ -92,7 +92,7 @@ state-length s =
     let e : length ((head ++ (v ++ (c ++ p))) ++ z) ≡ length (head ++ (v ++ (c ++ p))) + length z = length-append (head ++ (v ++ (c ++ p))) z in
     omega arith
 
-state-most : (n : ℕ) → n ≤ 10 → (s : ViewState) → Right-state n s → length (state-bytes s) ≤ 881
+pub state-most : (n : ℕ) → n ≤ 10 → (s : ViewState) → Right-state n s → length (state-bytes s) ≤ 881
 state-most n ten s h =
     let l = state-length s in
     let c = commit-most n ten (s .commit) (h .commit-right) in

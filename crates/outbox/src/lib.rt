@@ -3,4 +3,5 @@ mod bodies;
 mod certificates;
 mod puts;
 pub mod sending;
+pub mod statements;
 pub mod tray;

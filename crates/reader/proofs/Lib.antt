@@ -1,1 +1,1 @@
-mod Backs
+pub mod Backs
