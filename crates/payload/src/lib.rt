@@ -1,5 +1,5 @@
-// What a client asks of the service: sixteen bytes that only the service reads.
-#[derive(Clone, Copy)]
-pub struct Payload {
-    pub bytes: [u8; 16],
-}
+//! What a request asks of a service.
+
+mod payload;
+
+pub use payload::Payload;

@@ -1,3 +1,4 @@
 pub mod Figures
 pub mod Refusals
 pub mod Rings
+pub mod Sets

@@ -12,7 +12,7 @@ use Rattle.std.specs.declared.result.Result.the-variants.{Ok, Err}
 use Rattle.quorum.specs.declared.refusal.Fault.{Fault}
 use Rattle.quorum.specs.declared.refusal.Fault.the-variants.{Unreadable, WrongSender}
 use Rattle.quorum.specs.Figures.{quorum-of}
-use Rattle.payload.specs.declared.Payload.{Payload}
+use Rattle.payload.specs.declared.payload.Payload.{Payload}
 use lib.Count.{ones}
 use Rattle.records.specs.Numbers.{number-of, shows}
 use Rattle.records.specs.Lists.{listed, bare, pushed, filled}

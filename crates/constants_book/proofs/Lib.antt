@@ -1,0 +1,3 @@
+pub mod Searches
+pub mod Tables
+pub mod Carrying

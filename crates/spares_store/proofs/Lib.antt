@@ -1,0 +1,4 @@
+mod Bounds
+mod Reading
+mod Undoing
+mod StoreRules

@@ -1,0 +1,5 @@
+pub mod Movements
+pub mod Outcomes
+pub mod Stocks
+pub mod Slips
+pub mod Rules
