@@ -40,7 +40,12 @@ fn rounds_link(
 }
 
 // The commit certificate behind its count: no view above the view state's; the place after it.
-fn commit_link(ring: Ring, view: u32, at: usize, commit: &Option<Certificate>) -> Result<usize, Fault>
+fn commit_link(
+    ring: Ring,
+    view: u32,
+    at: usize,
+    commit: &Option<Certificate>,
+) -> Result<usize, Fault>
     requires { ⌜ at ≤ 8000 ⌝ }
     ensures value { λ r. ⌜ r ≡ commit-link (stations-of ring) view at (now (commit .entry)) ⌝ }
     ensures bound { λ r. ⌜ made r (λ end. end ≤ at + 97) ⌝ }
@@ -75,7 +80,13 @@ fn state_link(ring: Ring, at: usize, state: &ViewState) -> Result<usize, Fault>
 {
     let place = commit_link(ring, state.view, at + 7, &state.commit)?;
     let round = next_round(&state.commit);
-    let end = rounds_link(ring, state.view, place + 1, round, state.prepared.as_slice())?;
+    let end = rounds_link(
+        ring,
+        state.view,
+        place + 1,
+        round,
+        state.prepared.as_slice(),
+    )?;
     Ok(end + 8)
 }
 

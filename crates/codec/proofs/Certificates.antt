@@ -64,10 +64,10 @@ slot-back bs mask all i at x end room e = go (shows mask i) refl e
         let a = then-ok (number-at 8 bs at) _ h in
         let n = number-back 8 bs at (a .0) all (a .1) in
         subst (Got bs at seal-bytes (Right-slot mask i)) (ok-same (a .2))
-          ((sym t, n .0), n .1, ap (λ m. at + m) (sym (put-length 8 (a .0))))
+        ((sym t, n .0), n .1, ap (λ m. at + m) (sym (put-length 8 (a .0))))
     go false t h =
         subst (Got bs at seal-bytes (Right-slot mask i)) (ok-same h)
-          ((sym t, tt), stands-none bs at room, sym (add-zero at))
+        ((sym t, tt), stands-none bs at room, sym (add-zero at))
 
 slot-on : (bs : List ℕ) (mask : ℕ) → On bs (slot-at bs mask) seal-bytes (Right-slot mask)
 unfolding seal-bytes
@@ -113,28 +113,28 @@ seals-right n mask seals ten q r =
     let high : mask / 2 ^ n ≡ 0 = eqb-true (mask / 2 ^ n) 0 (t .0) in
     let count : ones mask ≡ quorum-of n = eqb-true (ones mask) (quorum-of n) (t .1) in
     let all-high : mask / 2 ^ length seals ≡ 0 = ap (λ k. mask / 2 ^ k) (r .many) ∙ mask-ten n mask ten high in
-    let same = mask-is seals mask all-high (λ i l. r .each i None (subst (λ k. i < k) (r .many) l) .0) in
-    ( same
-    , all-from-getD Right-seal seals None (λ i l. r .each i None (subst (λ k. i < k) (r .many) l) .1)
-    , sym (ones-mask seals) ∙ ap ones same ∙ count
-    , none-from seals n (ap (λ m. m / 2 ^ n) same ∙ high)
+    let same = mask-is seals mask all-high (λ i l. r .each i None (subst (λ k. i < k) (r .many) l) .0) in (
+      same,
+      all-from-getD Right-seal seals None (λ i l. r .each i None (subst (λ k. i < k) (r .many) l) .1),
+      sym (ones-mask seals) ∙ ap ones same ∙ count,
+      none-from seals n (ap (λ m. m / 2 ^ n) same ∙ high),
     )
 
 seals-row : (n : ℕ) (c : Certificate) → Right-certificate n c → Row (Right-slot (mask-of (c .seals))) 10 (c .seals)
-seals-row n c h = record
-  { many = h .ten
-  ; each = λ i d l.
-    let m : i < length (c .seals) = subst (λ k. i < k) (sym (h .ten)) l in
-    ( ap isSome (getD-default (c .seals) i d None m) ∙ sym (shows-mask (c .seals) i)
-    , all-getD Right-seal (c .seals) i d m (h .seals-right)
-    )
-  }
+seals-row n c h = record {
+  many = h .ten;
+  each = λ i d l.
+      let m : i < length (c .seals) = subst (λ k. i < k) (sym (h .ten)) l in (
+        ap isSome (getD-default (c .seals) i d None m) ∙ sym (shows-mask (c .seals) i),
+        all-getD Right-seal (c .seals) i d m (h .seals-right),
+      );
+}
 
 seals-quorate : (n : ℕ) (c : Certificate) → Right-certificate n c → quorate n (mask-of (c .seals)) ≡ true
 seals-quorate n c h =
     and-from (eqb (mask-of (c .seals) / 2 ^ n) 0) (eqb (ones (mask-of (c .seals))) (quorum-of n))
-      (eq-eqb (mask-of (c .seals) / 2 ^ n) 0 (mask-below (c .seals) n (h .inside)))
-      (eq-eqb (ones (mask-of (c .seals))) (quorum-of n) (ones-mask (c .seals) ∙ h .quorate))
+    (eq-eqb (mask-of (c .seals) / 2 ^ n) 0 (mask-below (c .seals) n (h .inside)))
+    (eq-eqb (ones (mask-of (c .seals))) (quorum-of n) (ones-mask (c .seals) ∙ h .quorate))
 
 mask-fits : (n : ℕ) (c : Certificate) → n ≤ 10 → Right-certificate n c → Fits 2 (mask-of (c .seals))
 mask-fits n c ten h =
@@ -156,11 +156,11 @@ certificate-back n ten bs at c all e =
     let s = seals-back bs mask 10 (at + 40) seals all (omega arith) read-seals in
     let r = seals-right n mask seals ten good (s .0) in
     let row = s .0 in
-    subst (λ c. Right-certificate n c × Stands bs at (certificate-bytes c)) (ok-same e₄)
-      ( record { proposal-right = p .0; ten = row .many; seals-right = r .1; quorate = r .2; inside = r .3 }
-      , stands-same (ap (λ k. proposal-bytes proposal ++ (put 2 k ++ joined seal-bytes seals)) (sym (r .0)))
-        (stands-join (p .1) (stands-join mask-there (s .1) (omega arith)) (omega arith))
-      )))))
+    subst (λ c. Right-certificate n c × Stands bs at (certificate-bytes c)) (ok-same e₄) (
+      record { proposal-right = p .0; ten = row .many; seals-right = r .1; quorate = r .2; inside = r .3 },
+      stands-same (ap (λ k. proposal-bytes proposal ++ (put 2 k ++ joined seal-bytes seals)) (sym (r .0)))
+          (stands-join (p .1) (stands-join mask-there (s .1) (omega arith)) (omega arith)),
+    )))))
 
 pub certificate-on : (n : ℕ) → n ≤ 10 → (bs : List ℕ) (at : ℕ) (c : Certificate) → Right-certificate n c → Stands bs at (certificate-bytes c) → certificate-at n bs at ≡ Ok c
 unfolding certificate-bytes seals-bytes
@@ -183,7 +183,7 @@ listed-back n ten bs all i at c end room e =
     then-by (certificate-at n bs at) _ e (λ d read e₁.
     let r = certificate-back n ten bs at d all read in
     subst (Got bs at certificate-bytes (Right-certificate n)) (ok-same e₁)
-      (r .0, r .1, ap (λ m. at + m) (sym (certificate-length n d (r .0)))))
+    (r .0, r .1, ap (λ m. at + m) (sym (certificate-length n d (r .0)))))
 
 pub listed-on : (n : ℕ) → n ≤ 10 → (bs : List ℕ) → On bs (listed-at n bs) certificate-bytes (λ i. Right-certificate n)
 listed-on n ten bs i at c h s =

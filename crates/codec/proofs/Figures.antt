@@ -98,8 +98,8 @@ state-most n ten s h =
     let c = commit-most n ten (s .commit) (h .commit-right) in
     let p = prepared-length (listed (s .prepared)) in
     let each : All (λ c. length (certificate-bytes c) ≤ 96) (listed (s .prepared)) =
-      all-weaker (Right-certificate n) (λ c. length (certificate-bytes c) ≤ 96)
-        (λ c r. let k = certificates.certificate-length n c r in omega arith) (listed (s .prepared)) (h .prepared-right) in
+    all-weaker (Right-certificate n) (λ c. length (certificate-bytes c) ≤ 96)
+    (λ c r. let k = certificates.certificate-length n c r in omega arith) (listed (s .prepared)) (h .prepared-right) in
     let j = joined-most certificate-bytes 96 (listed (s .prepared)) each in
     let few = h .prepared-few in
     omega arith
@@ -125,73 +125,74 @@ abbrev big-request : Request
 big-request = record { client = 1000; sequence = 1; payload = record { bytes = replicate 16 0 }; seal = 0 }
 
 abbrev big-certificate : Certificate
-big-certificate = record
-  { proposal = record { view = 0; round = 0; request = big-request }
-  ; seals = replicate 7 (Some 0) ++ replicate 3 None
-  }
+big-certificate = record {
+  proposal = record { view = 0; round = 0; request = big-request };
+  seals = replicate 7 (Some 0) ++ replicate 3 None;
+}
 
 abbrev big-state : ViewState
-big-state = record
-  { sender = 0
-  ; view = 0
-  ; commit = Some big-certificate
-  ; prepared = record { items = replicate 8 big-certificate; len = 8 }
-  ; seal = 0
-  }
+big-state = record {
+  sender = 0;
+  view = 0;
+  commit = Some big-certificate;
+  prepared = record { items = replicate 8 big-certificate; len = 8 };
+  seal = 0;
+}
 
 abbrev big-view : NewView
 big-view = record { sender = 0; view = 1; states = record { items = replicate 7 big-state; len = 7 }; seal = 0 }
 
 big-request-right : Right-request big-request
-big-request-right = record
-  { client-low = omega arith
-  ; client-fits = omega arith
-  ; sequence-low = omega arith
-  ; sequence-fits = omega arith
-  ; payload-long = refl
-  ; payload-bytes = zeros
-  ; seal-fits = omega arith
-  }
+big-request-right = record {
+  client-low = omega arith;
+  client-fits = omega arith;
+  sequence-low = omega arith;
+  sequence-fits = omega arith;
+  payload-long = refl;
+  payload-bytes = zeros;
+  seal-fits = omega arith;
+}
   where
     z : 0 < 256
     z = omega arith
+
     zeros : All (λ b. b < 256) (replicate 16 0)
     zeros = (z, (z, (z, (z, (z, (z, (z, (z, (z, (z, (z, (z, (z, (z, (z, (z, tt))))))))))))))))
 
 big-certificate-right : Right-certificate 10 big-certificate
-big-certificate-right = record
-  { proposal-right = record { view-high = omega arith; round-fits = omega arith; request-right = big-request-right }
-  ; ten = refl
-  ; seals-right = (z, (z, (z, (z, (z, (z, (z, (tt, (tt, (tt, tt))))))))))
-  ; quorate = refl
-  ; inside = λ i l. getD-past (big-certificate .seals) i None l
-  }
+big-certificate-right = record {
+  proposal-right = record { view-high = omega arith; round-fits = omega arith; request-right = big-request-right };
+  ten = refl;
+  seals-right = (z, (z, (z, (z, (z, (z, (z, (tt, (tt, (tt, tt))))))))));
+  quorate = refl;
+  inside = λ i l. getD-past (big-certificate .seals) i None l;
+}
   where
     z : 0 < 256 ^ 8
     z = omega arith
 
 big-state-right : Right-state 10 big-state
 big-state-right =
-    let c = big-certificate-right in record
-    { sender-fits = omega arith
-    ; view-high = omega arith
-    ; commit-right = c
-    ; prepared-packed = refl
-    ; prepared-few = omega arith
-    ; prepared-right = (c, (c, (c, (c, (c, (c, (c, (c, tt))))))))
-    ; seal-fits = omega arith
+    let c = big-certificate-right in record {
+      sender-fits = omega arith;
+      view-high = omega arith;
+      commit-right = c;
+      prepared-packed = refl;
+      prepared-few = omega arith;
+      prepared-right = (c, (c, (c, (c, (c, (c, (c, (c, tt))))))));
+      seal-fits = omega arith;
     }
 
 big-view-right : Right-new-view 10 big-view
 big-view-right =
-    let s = big-state-right in record
-    { sender-fits = omega arith
-    ; view-low = omega arith
-    ; view-high = omega arith
-    ; states-packed = refl
-    ; states-many = refl
-    ; states-right = (s, (s, (s, (s, (s, (s, (s, tt)))))))
-    ; seal-fits = omega arith
+    let s = big-state-right in record {
+      sender-fits = omega arith;
+      view-low = omega arith;
+      view-high = omega arith;
+      states-packed = refl;
+      states-many = refl;
+      states-right = (s, (s, (s, (s, (s, (s, (s, tt)))))));
+      seal-fits = omega arith;
     }
 
 big-commit-length : length (commit-bytes (Some big-certificate)) ≡ 97

@@ -102,8 +102,8 @@ head-split m sender xs s =
     let l₂ = mark-length m in
     let l₁ = put-length 1 sender in
     let l₃ = length-append (mark-bytes m) (put 1 sender) in
-    let head = stands-left (mark-bytes m ++ put 1 sender) xs s in
-    ( stands-left (mark-bytes m) (put 1 sender) head
-    , stands-right (mark-bytes m) (put 1 sender) 2 (omega arith) head
-    , stands-right (mark-bytes m ++ put 1 sender) xs 3 (omega arith) s
+    let head = stands-left (mark-bytes m ++ put 1 sender) xs s in (
+      stands-left (mark-bytes m) (put 1 sender) head,
+      stands-right (mark-bytes m) (put 1 sender) 2 (omega arith) head,
+      stands-right (mark-bytes m ++ put 1 sender) xs 3 (omega arith) s,
     )

@@ -63,8 +63,8 @@ pub none-from : (seals : List (Option ℕ)) (n : ℕ) → mask-of seals / 2 ^ n 
 none-from seals n h i l =
     let more : n + (i - n) ≡ i = omega arith in
     let e : mask-of seals / 2 ^ i ≡ 0 =
-      ap (λ k. mask-of seals / 2 ^ k) (sym more) ∙ sym (shr-shr (mask-of seals) n (i - n)) ∙ ap (λ m. m / 2 ^ (i - n)) h
-      ∙ zero-div (2 ^ (i - n)) in
+    ap (λ k. mask-of seals / 2 ^ k) (sym more) ∙ sym (shr-shr (mask-of seals) n (i - n)) ∙ ap (λ m. m / 2 ^ (i - n)) h
+    ∙ zero-div (2 ^ (i - n)) in
     none-is (getD seals i None) (sym (shows-mask seals i) ∙ ap (λ m. eqb (m % 2) 1) e)
 
 odd-is : (b : Bool) (m : ℕ) → m < 2 → b ≡ eqb m 1 → cond b 1 0 ≡ m
@@ -76,6 +76,6 @@ pub mask-is : (seals : List (Option ℕ)) (mask : ℕ) → mask / 2 ^ length sea
 mask-is [] mask h e = sym (sym (div-one mask) ∙ h)
 mask-is (s ∷ ss) mask h e =
     let ih = mask-is ss (mask / 2) (sym (shr-suc mask (length ss)) ∙ h)
-      (λ i l. e (suc i) (omega arith) ∙ ap (λ m. eqb (m % 2) 1) (shr-suc mask i)) in
+    (λ i l. e (suc i) (omega arith) ∙ ap (λ m. eqb (m % 2) 1) (shr-suc mask i)) in
     let first = odd-is (isSome s) (mask / 1 % 2) (omega arith) (e zero (omega arith)) in
     omega arith

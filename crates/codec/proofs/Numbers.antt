@@ -51,11 +51,11 @@ put-number (suc k) xs h b =
     let last : getD xs k 0 < 256 = all-getD Byte xs k 0 in-it b in
     let front : length (take k xs) ≡ k = length-take-le k xs (omega arith) in
     let e : number-of xs ≡ number-of (take k xs) * 256 + getD xs k 0 =
-      ap number-of split ∙ number-push 256 (take k xs) (getD xs k 0) in
+    ap number-of split ∙ number-push 256 (take k xs) (getD xs k 0) in
     let high : number-of xs / 256 ≡ number-of (take k xs) =
-      ap (λ m. m / 256) e ∙ div-mul-add (number-of (take k xs)) 256 (getD xs k 0) last in
+    ap (λ m. m / 256) e ∙ div-mul-add (number-of (take k xs)) 256 (getD xs k 0) last in
     let low : number-of xs % 256 ≡ getD xs k 0 =
-      ap (λ m. m % 256) e ∙ mod-mul-add (number-of (take k xs)) 256 (getD xs k 0) last in
+    ap (λ m. m % 256) e ∙ mod-mul-add (number-of (take k xs)) 256 (getD xs k 0) last in
     let ih = put-number k (take k xs) front (all-take Byte k xs b) in
     ap (λ m. put k m ++ (number-of xs % 256 ∷ [])) high ∙ ap (λ m. put k (number-of (take k xs)) ++ (m ∷ [])) low
     ∙ ap (λ l. l ++ (getD xs k 0 ∷ [])) ih ∙ sym split

@@ -78,7 +78,7 @@ claim-by bs all m t make y e go =
     let l₃₈ = proposal-length p (b .0) in
     let l = length-append (head-bytes m sender) (proposal-bytes p) in
     go sender p seal (ok-same e₃) (record { sender-fits = a .0; proposal-right = b .0; seal-fits = c .0 })
-      (stands-join (head-join m sender t (a .1) (b .1)) (c .1) (omega arith)))))
+    (stands-join (head-join m sender t (a .1) (b .1)) (c .1) (omega arith)))))
 
 claim-on : {A : Type 0} (bs : List ℕ) (m : Mark) (make : ℕ → Proposal → ℕ → A) (sender : ℕ) (p : Proposal) (seal : ℕ) → Right-claim sender p seal → Stands bs 0 (claim-bytes m sender p ++ put 8 seal) → claim-in bs make ≡ Ok (make sender p seal)
 unfolding claim-bytes
@@ -116,17 +116,17 @@ check-commit-back n ten bs all c t e =
     let l₃ : length head ≡ 3 = head-length mark.CheckCommit sender in
     let k : length (proposal-bytes (p .proposal) ++ seals-bytes (p .seals)) ≡ certificate-size n = certificate-length n p (b .0) in
     let l : length (head ++ (proposal-bytes (p .proposal) ++ seals-bytes (p .seals))) ≡ length head + length (proposal-bytes (p .proposal) ++ seals-bytes (p .seals)) =
-      length-append head (proposal-bytes (p .proposal) ++ seals-bytes (p .seals)) in
+    length-append head (proposal-bytes (p .proposal) ++ seals-bytes (p .seals)) in
     let same : head ++ (proposal-bytes (p .proposal) ++ seals-bytes (p .seals)) ≡ (head ++ proposal-bytes (p .proposal)) ++ seals-bytes (p .seals) =
-      sym (append-assoc head (proposal-bytes (p .proposal)) (seals-bytes (p .seals))) in
+    sym (append-assoc head (proposal-bytes (p .proposal)) (seals-bytes (p .seals))) in
     let l′ = ap length same in
     let z = sealed-length ((head ++ proposal-bytes (p .proposal)) ++ seals-bytes (p .seals)) seal in
     let body = stands-same same (head-join mark.CheckCommit sender t (a .1) (b .1)) in
-    subst (λ c. Got bs 0 arrival-bytes (Right-arrival n) (arrival.CheckCommit c, 11 + certificate-size n)) (ok-same e₃)
-      ( record { sender-fits = a .0; prepared-right = b .0; seal-fits = d .0 }
-      , stands-join body (d .1) (omega arith)
-      , omega arith
-      ))))
+    subst (λ c. Got bs 0 arrival-bytes (Right-arrival n) (arrival.CheckCommit c, 11 + certificate-size n)) (ok-same e₃) (
+      record { sender-fits = a .0; prepared-right = b .0; seal-fits = d .0 },
+      stands-join body (d .1) (omega arith),
+      omega arith,
+    ))))
 
 check-commit-on : (n : ℕ) → n ≤ 10 → (bs : List ℕ) (c : CheckCommit) → Right-arrival n (arrival.CheckCommit c) → Stands bs 0 (arrival-bytes (arrival.CheckCommit c)) → Stands bs 0 (mark-bytes mark.CheckCommit) × (arrival-behind n bs mark.CheckCommit ≡ Ok (arrival.CheckCommit c, length (arrival-bytes (arrival.CheckCommit c))))
 unfolding arrival-bytes body-bytes claim-bytes certificate-bytes check-commit-body failure-body
@@ -146,9 +146,9 @@ check-commit-on n ten bs c h s =
     let t = head-split mark.CheckCommit (c .sender) (p ++ q) body in
     let end : 11 + certificate-size n ≡ length (((head ++ p) ++ q) ++ z) = omega arith in
     let read : check-commit-in n bs ≡ Ok c =
-      then-on _ (number-on 1 bs 2 (c .sender) (h .sender-fits) (t .1))
-      (then-on _ (certificate-on n ten bs 3 (c .prepared) (h .prepared-right) (t .2))
-      (then-on _ (number-on 8 bs (3 + certificate-size n) (c .seal) (h .seal-fits) seal) refl)) in
+    then-on _ (number-on 1 bs 2 (c .sender) (h .sender-fits) (t .1))
+    (then-on _ (certificate-on n ten bs 3 (c .prepared) (h .prepared-right) (t .2))
+    (then-on _ (number-on 8 bs (3 + certificate-size n) (c .seal) (h .seal-fits) seal) refl)) in
     (t .0, then-on _ read (ap (λ k. Ok (arrival.CheckCommit c, k)) end))
 
 failure-back : (n : ℕ) (bs : List ℕ) → Bytes bs → (f : Failure) → Stands bs 0 (mark-bytes mark.Failure) → failure-in bs ≡ Ok f → Got bs 0 arrival-bytes (Right-arrival n) (arrival.Failure f, 15)
@@ -164,11 +164,11 @@ failure-back n bs all f t e =
     let l₄ = put-length 4 view in
     let l = length-append (head-bytes mark.Failure sender) (put 4 view) in
     let z = sealed-length (head-bytes mark.Failure sender ++ put 4 view) seal in
-    subst (λ f. Got bs 0 arrival-bytes (Right-arrival n) (arrival.Failure f, 15)) (ok-same e₃)
-      ( record { sender-fits = a .0; view-high = b .1; seal-fits = c .0 }
-      , stands-join (head-join mark.Failure sender t (a .1) (b .2)) (c .1) (omega arith)
-      , omega arith
-      ))))
+    subst (λ f. Got bs 0 arrival-bytes (Right-arrival n) (arrival.Failure f, 15)) (ok-same e₃) (
+      record { sender-fits = a .0; view-high = b .1; seal-fits = c .0 },
+      stands-join (head-join mark.Failure sender t (a .1) (b .2)) (c .1) (omega arith),
+      omega arith,
+    ))))
 
 failure-on : (n : ℕ) (bs : List ℕ) (f : Failure) → Right-arrival n (arrival.Failure f) → Stands bs 0 (arrival-bytes (arrival.Failure f)) → Stands bs 0 (mark-bytes mark.Failure) × (arrival-behind n bs mark.Failure ≡ Ok (arrival.Failure f, length (arrival-bytes (arrival.Failure f))))
 unfolding arrival-bytes body-bytes check-commit-body failure-body
@@ -182,9 +182,9 @@ failure-on n bs f h s =
     let t = head-split mark.Failure (f .sender) (put 4 (f .view)) body in
     let end : 15 ≡ length ((head-bytes mark.Failure (f .sender) ++ put 4 (f .view)) ++ put 8 (f .seal)) = omega arith in
     let read : failure-in bs ≡ Ok f =
-      then-on _ (number-on 1 bs 2 (f .sender) (h .sender-fits) (t .1))
-      (then-on _ (view-on 0 999999 bs 3 (f .view) (omega arith) (h .view-high) (omega arith) (t .2))
-      (then-on _ (number-on 8 bs 7 (f .seal) (h .seal-fits) seal) refl)) in
+    then-on _ (number-on 1 bs 2 (f .sender) (h .sender-fits) (t .1))
+    (then-on _ (view-on 0 999999 bs 3 (f .view) (omega arith) (h .view-high) (omega arith) (t .2))
+    (then-on _ (number-on 8 bs 7 (f .seal) (h .seal-fits) seal) refl)) in
     (t .0, then-on _ read (ap (λ k. Ok (arrival.Failure f, k)) end))
 
 -- a new view's body with its view states as a list
@@ -212,14 +212,15 @@ members-back n ten bs all at count few end room e =
     let r = several-back bs (member-at n bs) state-bytes (λ i. Right-state n) (member-back n ten bs all) count at (ss .0) (ss .1) room read in
     let row = r .0 in
     let same = listed-filled blank-state 7 (ss .0) in
-    subst (Got bs at (λ few. joined state-bytes (listed few)) (Right-members n count)) (ok-same e₁)
-      ( ( ap (filled blank-state 7) (sym same)
-        , ap length same ∙ row .many
-        , subst (All (Right-state n)) (sym same) (row-all (Right-state n) blank-state count (ss .0) row)
-        )
-      , stands-same (ap (joined state-bytes) (sym same)) (r .1)
-      , r .2 ∙ ap (λ l. at + length (joined state-bytes l)) (sym same)
-      ))
+    subst (Got bs at (λ few. joined state-bytes (listed few)) (Right-members n count)) (ok-same e₁) (
+      (
+        ap (filled blank-state 7) (sym same),
+        ap length same ∙ row .many,
+        subst (All (Right-state n)) (sym same) (row-all (Right-state n) blank-state count (ss .0) row),
+      ),
+      stands-same (ap (joined state-bytes) (sym same)) (r .1),
+      r .2 ∙ ap (λ l. at + length (joined state-bytes l)) (sym same),
+    ))
 
 new-view-back : (n : ℕ) → n ≤ 10 → (bs : List ℕ) → Bytes bs → (v : NewView) (end : ℕ) → Stands bs 0 (mark-bytes mark.NewView) → new-view-in n bs ≡ Ok (v, end) → Got bs 0 arrival-bytes (Right-arrival n) (arrival.NewView v, end)
 unfolding arrival-bytes body-bytes new-view-body check-commit-body failure-body states-bytes
@@ -238,7 +239,7 @@ new-view-back n ten bs all v end t e =
     let l₁ = put-length 1 count in
     let r = members-back n ten bs all 8 count (states .0) (states .1) (omega (arith, there .inside)) read-states in
     subst (λ got. Got bs 0 arrival-bytes (Right-arrival n) (arrival.NewView (got .0), got .1)) (ok-same e₆)
-      (made sender view count (states .0) seal (states .1) a b (eqb-true count (quorum-of n) good) there r f)))))))
+    (made sender view count (states .0) seal (states .1) a b (eqb-true count (quorum-of n) good) there r f)))))))
   where
     made : (sender view count : ℕ) (few : Few ViewState 7) (seal far : ℕ) → Fits 1 sender × Stands bs 2 (put 1 sender) → (1 ≤ view) × (view ≤ last-view) × Stands bs 3 (put 4 view) → count ≡ quorum-of n → Stands bs 7 (put 1 count) → Got bs 8 (λ few. joined state-bytes (listed few)) (Right-members n count) (few, far) → Fits 8 seal × Stands bs far (put 8 seal) → Got bs 0 arrival-bytes (Right-arrival n) (arrival.NewView (record { sender = sender; view = view; states = few; seal = seal }), far + 8)
     made sender view count few seal far a b q c r f =
@@ -247,21 +248,21 @@ new-view-back n ten bs all v end t e =
         let l₁ = put-length 1 (length (listed few)) in
         let front = stands-same (ap (put 1) (sym many)) c in
         let body : Stands bs 0 (view-body sender view (listed few)) =
-          head-join mark.NewView sender t (a .1) (stands-join (b .2) (stands-join front (r .1) (omega arith)) (omega arith)) in
+        head-join mark.NewView sender t (a .1) (stands-join (b .2) (stands-join front (r .1) (omega arith)) (omega arith)) in
         let l = view-length sender view (listed few) in
         let z = sealed-length (view-body sender view (listed few)) seal in
-        let far-is = r .2 in
-        ( record
-          { sender-fits = a .0
-          ; view-low = b .0
-          ; view-high = b .1
-          ; states-packed = r .0 .0
-          ; states-many = many ∙ q
-          ; states-right = r .0 .2
-          ; seal-fits = f .0
-          }
-        , stands-join body (f .1) (omega arith)
-        , omega arith
+        let far-is = r .2 in (
+          record {
+            sender-fits = a .0;
+            view-low = b .0;
+            view-high = b .1;
+            states-packed = r .0 .0;
+            states-many = many ∙ q;
+            states-right = r .0 .2;
+            seal-fits = f .0;
+          },
+          stands-join body (f .1) (omega arith),
+          omega arith,
         )
 
 new-view-on : (n : ℕ) → n ≤ 10 → (bs : List ℕ) (v : NewView) → Right-arrival n (arrival.NewView v) → Stands bs 0 (arrival-bytes (arrival.NewView v)) → Stands bs 0 (mark-bytes mark.NewView) × (arrival-behind n bs mark.NewView ≡ Ok (arrival.NewView v, length (arrival-bytes (arrival.NewView v))))
@@ -286,15 +287,15 @@ new-view-on n ten bs v h s = go (listed (v .states)) (h .states-packed) (h .stat
         let row = all-row (Right-state n) (length ss) ss refl right in
         let few : length ss < 256 = omega arith in
         let members : members-at n bs 8 (length ss) ≡ Ok (v .states, far) =
-          then-on _ (several-on bs (member-at n bs) state-bytes (λ i. Right-state n) (member-on n ten bs) blank-state (length ss) 8 ss row states)
-            (ap (λ l. Ok (l, far)) (sym packed)) in
+        then-on _ (several-on bs (member-at n bs) state-bytes (λ i. Right-state n) (member-on n ten bs) blank-state (length ss) 8 ss row states)
+        (ap (λ l. Ok (l, far)) (sym packed)) in
         let read : new-view-in n bs ≡ Ok (v, far + 8) =
-          then-on _ (number-on 1 bs 2 (v .sender) (h .sender-fits) (t .1))
-          (then-on _ (view-on 1 last-view bs 3 (v .view) (h .view-low) (h .view-high) (omega arith) view)
-          (then-on _ (number-on 1 bs 7 (length ss) few count)
-          (check-on 7 (eq-eqb (length ss) (quorum-of n) many)
-          (then-on _ members
-          (then-on _ (number-on 8 bs far (v .seal) (h .seal-fits) seal) refl))))) in
+        then-on _ (number-on 1 bs 2 (v .sender) (h .sender-fits) (t .1))
+        (then-on _ (view-on 1 last-view bs 3 (v .view) (h .view-low) (h .view-high) (omega arith) view)
+        (then-on _ (number-on 1 bs 7 (length ss) few count)
+        (check-on 7 (eq-eqb (length ss) (quorum-of n) many)
+        (then-on _ members
+        (then-on _ (number-on 8 bs far (v .seal) (h .seal-fits) seal) refl))))) in
         (t .0, then-on _ read (ap (λ k. Ok (arrival.NewView v, k)) end))
 
 -- what stations send each other
@@ -405,11 +406,11 @@ inform-behind-back bs all mark.Inform i end t e =
     let l = length-append (head-bytes mark.Inform sender) (proposal-bytes p) in
     let y = sealed-length (head-bytes mark.Inform sender ++ proposal-bytes p) result in
     let z = sealed-length ((head-bytes mark.Inform sender ++ proposal-bytes p) ++ put 8 result) seal in
-    subst (Got bs 0 telling-bytes Right-inform) (ap (λ j. (j, 57)) (ok-same e₄) ∙ ok-same e₀)
-      ( record { claim-right = record { sender-fits = a .0; proposal-right = b .0; seal-fits = d .0 }; result-fits = c .0 }
-      , stands-join (stands-join (head-join mark.Inform sender t (a .1) (b .1)) (c .1) (omega arith)) (d .1) (omega arith)
-      , omega arith
-      ))))))
+    subst (Got bs 0 telling-bytes Right-inform) (ap (λ j. (j, 57)) (ok-same e₄) ∙ ok-same e₀) (
+      record { claim-right = record { sender-fits = a .0; proposal-right = b .0; seal-fits = d .0 }; result-fits = c .0 },
+      stands-join (stands-join (head-join mark.Inform sender t (a .1) (b .1)) (c .1) (omega arith)) (d .1) (omega arith),
+      omega arith,
+    ))))))
 inform-behind-back bs all mark.Request i end t e = absurd (grind arith)
 inform-behind-back bs all mark.Propose i end t e = absurd (grind arith)
 inform-behind-back bs all mark.Prepare i end t e = absurd (grind arith)
@@ -429,7 +430,7 @@ inform-behind-on bs i h s =
     let l : length (head ++ p) ≡ length head + length p = length-append head p in
     let y : length ((head ++ p) ++ put 8 (i .result)) ≡ length (head ++ p) + 8 = sealed-length (head ++ p) (i .result) in
     let z : length (((head ++ p) ++ put 8 (i .result)) ++ put 8 (i .seal)) ≡ length ((head ++ p) ++ put 8 (i .result)) + 8 =
-      sealed-length ((head ++ p) ++ put 8 (i .result)) (i .seal) in
+    sealed-length ((head ++ p) ++ put 8 (i .result)) (i .seal) in
     let end : 57 ≡ length (((head ++ p) ++ put 8 (i .result)) ++ put 8 (i .seal)) = omega arith in
     let body = stands-left ((head ++ p) ++ put 8 (i .result)) (put 8 (i .seal)) s in
     let seal = stands-right ((head ++ p) ++ put 8 (i .result)) (put 8 (i .seal)) 49 (omega arith) s in
@@ -437,8 +438,8 @@ inform-behind-on bs i h s =
     let result = stands-right (head ++ p) (put 8 (i .result)) 41 (omega arith) body in
     let t = head-split mark.Inform (i .sender) p claim in
     let read : inform-in bs ≡ Ok i =
-      then-on _ (number-on 1 bs 2 (i .sender) (c .sender-fits) (t .1))
-      (then-on _ (proposal-on bs 3 (i .proposal) (c .proposal-right) (t .2))
-      (then-on _ (number-on 8 bs 41 (i .result) (h .result-fits) result)
-      (then-on _ (number-on 8 bs 49 (i .seal) (c .seal-fits) seal) refl))) in
+    then-on _ (number-on 1 bs 2 (i .sender) (c .sender-fits) (t .1))
+    (then-on _ (proposal-on bs 3 (i .proposal) (c .proposal-right) (t .2))
+    (then-on _ (number-on 8 bs 41 (i .result) (h .result-fits) result)
+    (then-on _ (number-on 8 bs 49 (i .seal) (c .seal-fits) seal) refl))) in
     (t .0, then-on _ read (ap (λ k. Ok (i, k)) end))

@@ -47,18 +47,18 @@ request-back bs at r all e =
     let l₂ = put-length 2 (a .0) in
     let l₄ = put-length 4 (b .0) in
     let l : length (put 2 (a .0) ++ (put 4 (b .0) ++ c .0)) ≡ 22 = simp (length-append) (omega arith) in
-    subst (λ r. Right-request r × Stands bs at (request-bytes r)) (ok-same (d .2))
-      ( record
-        { client-low = leb-true 1000 (a .0) (a-low .0)
-        ; client-fits = client .0
-        ; sequence-low = leb-true 1 (b .0) (b-low .0)
-        ; sequence-fits = sequence .0
-        ; payload-long = payload .0
-        ; payload-bytes = payload .1
-        ; seal-fits = seal .0
-        }
-      , stands-join (stands-join (client .1) (stands-join (sequence .1) (payload .2) (omega arith)) (omega arith)) (seal .1) (omega arith)
-      )
+    subst (λ r. Right-request r × Stands bs at (request-bytes r)) (ok-same (d .2)) (
+      record {
+        client-low = leb-true 1000 (a .0) (a-low .0);
+        client-fits = client .0;
+        sequence-low = leb-true 1 (b .0) (b-low .0);
+        sequence-fits = sequence .0;
+        payload-long = payload .0;
+        payload-bytes = payload .1;
+        seal-fits = seal .0;
+      },
+      stands-join (stands-join (client .1) (stands-join (sequence .1) (payload .2) (omega arith)) (omega arith)) (seal .1) (omega arith),
+    )
 
 pub request-on : (bs : List ℕ) (at : ℕ) (r : Request) → Right-request r → Stands bs at (request-bytes r) → request-at bs at ≡ Ok r
 unfolding request-bytes asked-bytes
@@ -91,10 +91,10 @@ proposal-back bs at p all e =
     let request = request-back bs (at + 8) (c .0) all (c .1) in
     let l = put-length 4 (a .0) in
     let m = put-length 4 (b .0) in
-    subst (λ p. Right-proposal p × Stands bs at (proposal-bytes p)) (ok-same (c .2))
-      ( record { view-high = view .1; round-fits = round .0; request-right = request .0 }
-      , stands-join (view .2) (stands-join (round .1) (request .1) (omega arith)) (omega arith)
-      )
+    subst (λ p. Right-proposal p × Stands bs at (proposal-bytes p)) (ok-same (c .2)) (
+      record { view-high = view .1; round-fits = round .0; request-right = request .0 },
+      stands-join (view .2) (stands-join (round .1) (request .1) (omega arith)) (omega arith),
+    )
 
 pub proposal-on : (bs : List ℕ) (at : ℕ) (p : Proposal) → Right-proposal p → Stands bs at (proposal-bytes p) → proposal-at bs at ≡ Ok p
 unfolding proposal-bytes

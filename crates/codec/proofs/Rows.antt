@@ -39,15 +39,15 @@ abbrev pub On : {A : Type 0} → List ℕ → (ℕ → ℕ → Result (A × ℕ)
 On {A} bs read w Right = (i at : ℕ) (x : A) → Right i x → Stands bs at (w x) → read i at ≡ Ok (x, at + length (w x))
 
 row-more : {A : Type 0} (Right : ℕ → A → Type 0) (k : ℕ) (xs : List A) (x : A) → Row Right k xs → Right k x → Row Right (suc k) (xs ++ x ∷ [])
-row-more Right k xs x r h = record
-  { many = let e = length-push xs x in let m = r .many in omega arith
-  ; each = λ i d l.
-    ⊎-elim
+row-more Right k xs x r h = record {
+  many = let e = length-push xs x in let m = r .many in omega arith;
+  each = λ i d l.
+      ⊎-elim
       (λ (p : i < k). subst (Right i) (sym (getD-append-left xs (x ∷ []) d i (let m = r .many in omega arith))) (r .each i d p))
       (λ (q : k ≤ i). let same : k ≡ i = omega arith in
-        subst (λ j. Right j (getD (xs ++ x ∷ []) j d)) same (subst (Right k) (sym (getD-push xs x d k (r .many))) h))
-      (cases-lt i k)
-  }
+      subst (λ j. Right j (getD (xs ++ x ∷ []) j d)) same (subst (Right k) (sym (getD-push xs x d k (r .many))) h))
+      (cases-lt i k);
+}
 
 joined-push : {A : Type 0} (w : A → List ℕ) (xs : List A) (x : A) → joined w (xs ++ x ∷ []) ≡ joined w xs ++ w x
 joined-push w xs x = sym (joined-more w [] xs x)
@@ -56,7 +56,7 @@ pub several-back : {A : Type 0} (bs : List ℕ) (read : ℕ → ℕ → Result (
 several-back bs read w Right back zero at xs end h e =
     let same = ok-same e in
     subst (Got bs at (joined w) (Row Right zero)) same
-      (record { many = refl; each = λ i d l. absurd (omega arith) }, stands-none bs at h, sym (add-zero at))
+    (record { many = refl; each = λ i d l. absurd (omega arith) }, stands-none bs at h, sym (add-zero at))
 several-back bs read w Right back (suc k) at xs end h e =
     let a = then-ok (several read at k) _ e in
     let b = then-ok (read k (a .0 .1)) _ (a .2) in
@@ -65,13 +65,13 @@ several-back bs read w Right back (suc k) at xs end h e =
     let room : a .0 .1 ≤ length bs = omega (arith, ih .2, s .inside) in
     let step = back k (a .0 .1) (b .0 .0) (b .0 .1) room (b .1) in
     let push = joined-push w (a .0 .0) (b .0 .0) in
-    subst (Got bs at (joined w) (Row Right (suc k))) (ok-same (b .2))
-      ( row-more Right k (a .0 .0) (b .0 .0) (ih .0) (step .0)
-      , stands-same (sym push) (stands-join s (step .1) (ih .2))
-      , (let l = length-append (joined w (a .0 .0)) (w (b .0 .0)) in
-        let m = ap length push in
-        omega (arith, ih .2, step .2))
-      )
+    subst (Got bs at (joined w) (Row Right (suc k))) (ok-same (b .2)) (
+      row-more Right k (a .0 .0) (b .0 .0) (ih .0) (step .0),
+      stands-same (sym push) (stands-join s (step .1) (ih .2)),
+      (let l = length-append (joined w (a .0 .0)) (w (b .0 .0)) in
+          let m = ap length push in
+          omega (arith, ih .2, step .2)),
+    )
 
 pub several-on : {A : Type 0} (bs : List ℕ) (read : ℕ → ℕ → Result (A × ℕ) Fault) (w : A → List ℕ) (Right : ℕ → A → Type 0) → On bs read w Right → (d : A) (k at : ℕ) (xs : List A) → Row Right k xs → Stands bs at (joined w xs) → several read at k ≡ Ok (xs, at + length (joined w xs))
 several-on {A} bs read w Right on d zero at xs r s =
@@ -84,15 +84,15 @@ several-on {A} bs read w Right on d (suc k) at xs r s =
     let push : joined w xs ≡ joined w ys ++ w y = ap (joined w) split ∙ joined-push w ys y in
     let both = stands-same push s in
     let front : length ys ≡ k = length-take-le k xs (let m = r .many in omega arith) in
-    let before : Row Right k ys = record
-      { many = front
-      ; each = λ i e l. subst (Right i) (sym (getD-take k xs i e l)) (r .each i e (omega arith))
-      } in
+    let before : Row Right k ys = record {
+      many = front;
+      each = λ i e l. subst (Right i) (sym (getD-take k xs i e l)) (r .each i e (omega arith));
+    } in
     let ih = several-on bs read w Right on d k at ys before (stands-left (joined w ys) (w y) both) in
     let mid : ℕ = at + length (joined w ys) in
     let last = on k mid y (r .each k d (omega arith)) (stands-right (joined w ys) (w y) mid refl both) in
     let long : mid + length (w y) ≡ at + length (joined w xs) =
-      (let l = length-append (joined w ys) (w y) in let m = ap length push in omega arith) in
+    (let l = length-append (joined w ys) (w y) in let m = ap length push in omega arith) in
     let found : ys ++ y ∷ [] ≡ xs = sym split in
     then-on _ ih (then-on _ last (cc))
 

@@ -152,7 +152,7 @@ said-on n ten bs (begins i view ss) h s =
 pub says-one : Says-one
 says-one n low ten s t right-s right-t e =
     let here : Stands (said-bytes s) 0 (said-bytes s) =
-      record { inside = omega arith; there = take-all (length (said-bytes s)) (said-bytes s) (omega arith) } in
+    record { inside = omega arith; there = take-all (length (said-bytes s)) (said-bytes s) (omega arith) } in
     let one = said-on n ten (said-bytes s) s right-s here in
     let other = said-on n ten (said-bytes s) t right-t (stands-same e here) in
     ok-same (sym one ∙ other)
@@ -177,10 +177,10 @@ covered-rest (rec.Request r) =
 covered-rest (rec.Inform i) = (put 8 (i .seal), refl)
 covered-rest (rec.Arrival (arrival.Propose p)) = (put 8 (p .seal), refl)
 covered-rest (rec.Arrival (arrival.Prepare p)) = (put 8 (p .seal), refl)
-covered-rest (rec.Arrival (arrival.CheckCommit c)) =
-    ( seals-bytes (c .prepared .seals) ++ put 8 (c .seal)
-    , append-assoc (claim-bytes mark.CheckCommit (c .sender) (c .prepared .proposal)) (seals-bytes (c .prepared .seals)) (put 8 (c .seal))
-    )
+covered-rest (rec.Arrival (arrival.CheckCommit c)) = (
+  seals-bytes (c .prepared .seals) ++ put 8 (c .seal),
+  append-assoc (claim-bytes mark.CheckCommit (c .sender) (c .prepared .proposal)) (seals-bytes (c .prepared .seals)) (put 8 (c .seal)),
+)
 covered-rest (rec.Arrival (arrival.Failure f)) = (put 8 (f .seal), refl)
 covered-rest (rec.Arrival (arrival.ViewState s)) = (put 8 (s .seal), refl)
 covered-rest (rec.Arrival (arrival.NewView v)) = (put 8 (v .seal), refl)
@@ -199,7 +199,7 @@ unfolding said-bytes states-bytes
 covered-asked client sequence payload h = simp (length-append, mark-length, put-length) (omega arith)
 
 pub covered-length : Covered-length
-covered-length =
-    ( (λ n c h. let p = h .prepared-right in covered-check (c .sender) (c .prepared .proposal) (p .proposal-right))
-    , (λ r h. covered-asked (r .client) (r .sequence) (r .payload .bytes) (h .payload-long))
-    )
+covered-length = (
+  (λ n c h. let p = h .prepared-right in covered-check (c .sender) (c .prepared .proposal) (p .proposal-right)),
+  (λ r h. covered-asked (r .client) (r .sequence) (r .payload .bytes) (h .payload-long)),
+)

@@ -18,40 +18,40 @@ take-add n m xs =
 pub stands-join : {bs : List ℕ} {at mid : ℕ} {xs ys : List ℕ} → Stands bs at xs → Stands bs mid ys → mid ≡ at + length xs → Stands bs at (xs ++ ys)
 stands-join {bs} {at} {mid} {xs} {ys} p q e =
     let n = length-append xs ys in
-    record
-    { inside = omega arith
-    ; there =
-      ap (λ k. take k (drop at bs)) n
-      ∙ take-add (length xs) (length ys) (drop at bs)
-      ∙ ap (λ l. l ++ take (length ys) (drop (length xs) (drop at bs))) (p .there)
-      ∙ ap (λ l. xs ++ take (length ys) l) (drop-drop (length xs) at bs)
-      ∙ ap (λ k. xs ++ take (length ys) (drop k bs)) (sym e)
-      ∙ ap (λ l. xs ++ l) (q .there)
+    record {
+      inside = omega arith;
+      there =
+          ap (λ k. take k (drop at bs)) n
+          ∙ take-add (length xs) (length ys) (drop at bs)
+          ∙ ap (λ l. l ++ take (length ys) (drop (length xs) (drop at bs))) (p .there)
+          ∙ ap (λ l. xs ++ take (length ys) l) (drop-drop (length xs) at bs)
+          ∙ ap (λ k. xs ++ take (length ys) (drop k bs)) (sym e)
+          ∙ ap (λ l. xs ++ l) (q .there);
     }
 
 pub stands-left : {bs : List ℕ} {at : ℕ} (xs ys : List ℕ) → Stands bs at (xs ++ ys) → Stands bs at xs
 stands-left {bs} {at} xs ys p =
     let n = length-append xs ys in
-    record
-    { inside = omega (arith, p .inside)
-    ; there =
-      sym (take-take (length xs) (length (xs ++ ys)) (drop at bs) (omega arith))
-      ∙ ap (take (length xs)) (p .there)
-      ∙ take-at xs ys (length xs) refl
+    record {
+      inside = omega (arith, p .inside);
+      there =
+          sym (take-take (length xs) (length (xs ++ ys)) (drop at bs) (omega arith))
+          ∙ ap (take (length xs)) (p .there)
+          ∙ take-at xs ys (length xs) refl;
     }
 
 pub stands-right : {bs : List ℕ} {at : ℕ} (xs ys : List ℕ) (mid : ℕ) → mid ≡ at + length xs → Stands bs at (xs ++ ys) → Stands bs mid ys
 stands-right {bs} {at} xs ys mid e p =
     let n = length-append xs ys in
-    record
-    { inside = omega (arith, p .inside)
-    ; there =
-      ap (λ k. take (length ys) (drop k bs)) e
-      ∙ ap (take (length ys)) (sym (drop-drop (length xs) at bs))
-      ∙ sym (drop-take (length xs) (length ys) (drop at bs))
-      ∙ ap (λ k. drop (length xs) (take k (drop at bs))) (sym n)
-      ∙ ap (drop (length xs)) (p .there)
-      ∙ drop-at xs ys (length xs) refl
+    record {
+      inside = omega (arith, p .inside);
+      there =
+          ap (λ k. take (length ys) (drop k bs)) e
+          ∙ ap (take (length ys)) (sym (drop-drop (length xs) at bs))
+          ∙ sym (drop-take (length xs) (length ys) (drop at bs))
+          ∙ ap (λ k. drop (length xs) (take k (drop at bs))) (sym n)
+          ∙ ap (drop (length xs)) (p .there)
+          ∙ drop-at xs ys (length xs) refl;
     }
 
 pub stands-none : (bs : List ℕ) (at : ℕ) → at ≤ length bs → Stands bs at []

@@ -54,7 +54,7 @@ commit-back n ten bs all at o end e =
         let k = certificate-length n c (r .0) in
         let m = length-append (put 1 1) (certificate-bytes c) in
         subst (Got bs at commit-bytes (Right-commit n)) (ok-same h₁)
-          (r .0, stands-join s (r .1) (omega arith), omega arith))
+        (r .0, stands-join s (r .1) (omega arith), omega arith))
     go (suc (suc count)) l s h = absurd (omega arith)
 
 pub commit-on : (n : ℕ) → n ≤ 10 → (bs : List ℕ) (at : ℕ) (o : Option Certificate) → Right-commit n o → Stands bs at (commit-bytes o) → commit-at n bs at ≡ Ok (o, at + length (commit-bytes o))
@@ -95,14 +95,15 @@ prepared-back n ten bs all at few end e =
     let l₁′ = put-length 1 (length (cs .0)) in
     let m = length-append (put 1 (length (cs .0))) (joined certificate-bytes (cs .0)) in
     let front = stands-same (ap (put 1) (sym many)) s in
-    subst (Got bs at few-bytes (Right-prepared n)) (ok-same e₃)
-      ( ( ap (filled blank-certificate 8) (sym same)
-        , subst (λ l. length l ≤ 8) (sym same) (omega (arith, leb-true count 8 low))
-        , subst (All (Right-certificate n)) (sym same) (row-all (Right-certificate n) blank-certificate count (cs .0) row)
-        )
-      , stands-same (ap prepared-bytes (sym same)) (stands-join front (r .1) (omega arith))
-      , subst (λ l. cs .1 ≡ at + length (prepared-bytes l)) (sym same) (omega (arith, r .2))
-      ))))
+    subst (Got bs at few-bytes (Right-prepared n)) (ok-same e₃) (
+      (
+        ap (filled blank-certificate 8) (sym same),
+        subst (λ l. length l ≤ 8) (sym same) (omega (arith, leb-true count 8 low)),
+        subst (All (Right-certificate n)) (sym same) (row-all (Right-certificate n) blank-certificate count (cs .0) row),
+      ),
+      stands-same (ap prepared-bytes (sym same)) (stands-join front (r .1) (omega arith)),
+      subst (λ l. cs .1 ≡ at + length (prepared-bytes l)) (sym same) (omega (arith, r .2)),
+    ))))
 
 prepared-on : (n : ℕ) → n ≤ 10 → (bs : List ℕ) (at : ℕ) (few : Few Certificate 8) → Right-prepared n few → Stands bs at (few-bytes few) → prepared-at n bs at ≡ Ok (few, at + length (few-bytes few))
 unfolding prepared-bytes
@@ -142,7 +143,7 @@ state-back n ten bs all at s end e =
     let d = prepared-back n ten bs all (commit .1) (prepared .0) (prepared .1) read-prepared in
     let f = number-back 8 bs (prepared .1) seal all read-seal in
     subst (Got bs at state-bytes (Right-state n)) (ok-same e₇)
-      (made sender view (commit .0) (prepared .0) seal (commit .1) (prepared .1) letters-there a b c d f))))))))
+    (made sender view (commit .0) (prepared .0) seal (commit .1) (prepared .1) letters-there a b c d f))))))))
   where
     made : (sender view : ℕ) (commit : Option Certificate) (prepared : Few Certificate 8) (seal mid far : ℕ) → Stands bs at (put 2 (letters mark.ViewState)) → Fits 1 sender × Stands bs (at + 2) (put 1 sender) → (0 ≤ view) × (view ≤ 999999) × Stands bs (at + 3) (put 4 view) → Got bs (at + 7) commit-bytes (Right-commit n) (commit, mid) → Got bs mid few-bytes (Right-prepared n) (prepared, far) → Fits 8 seal × Stands bs far (put 8 seal) → Got bs at state-bytes (Right-state n) (record { sender = sender; view = view; commit = commit; prepared = prepared; seal = seal }, far + 8)
     made sender view commit prepared seal mid far t a b c d f =
@@ -156,20 +157,20 @@ state-back n ten bs all at s end e =
         let body₃ = length-append (put 2 (letters mark.ViewState) ++ put 1 sender) (put 4 view ++ (commit-bytes commit ++ few-bytes prepared)) in
         let body₄ = length-append ((put 2 (letters mark.ViewState) ++ put 1 sender) ++ (put 4 view ++ (commit-bytes commit ++ few-bytes prepared))) (put 8 seal) in
         let cm = c .2 in
-        let df = d .2 in
-        ( record
-          { sender-fits = a .0
-          ; view-high = b .1
-          ; commit-right = c .0
-          ; prepared-packed = d .0 .0
-          ; prepared-few = d .0 .1
-          ; prepared-right = d .0 .2
-          ; seal-fits = f .0
-          }
-        , stands-join
-            (stands-join (stands-join t (a .1) (omega arith)) (stands-join (b .2) (stands-join (c .1) (d .1) cm) (omega arith)) (omega arith))
-            (f .1) (omega arith)
-        , omega arith
+        let df = d .2 in (
+          record {
+            sender-fits = a .0;
+            view-high = b .1;
+            commit-right = c .0;
+            prepared-packed = d .0 .0;
+            prepared-few = d .0 .1;
+            prepared-right = d .0 .2;
+            seal-fits = f .0;
+          },
+          stands-join
+              (stands-join (stands-join t (a .1) (omega arith)) (stands-join (b .2) (stands-join (c .1) (d .1) cm) (omega arith)) (omega arith))
+              (f .1) (omega arith),
+          omega arith,
         )
 
 pub state-on : (n : ℕ) → n ≤ 10 → (bs : List ℕ) (at : ℕ) (s : ViewState) → Right-state n s → Stands bs at (state-bytes s) → state-at n bs at ≡ Ok (s, at + length (state-bytes s))

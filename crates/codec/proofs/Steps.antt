@@ -49,10 +49,10 @@ part-back k bs at xs all e =
     let xs-is : take k (drop at bs) ≡ xs = ok-same (a .1) in
     let room : at + k ≤ length bs = leb-true (at + k) (length bs) (a .0) in
     let long : length (take k (drop at bs)) ≡ k = simp (length-take, length-drop) (omega arith) in
-    let long-xs : length xs ≡ k = ap length (sym xs-is) ∙ long in
-    ( long-xs
-    , subst Bytes xs-is (all-take Byte k (drop at bs) (all-drop Byte at bs all))
-    , record { inside = omega arith; there = ap (λ m. take m (drop at bs)) long-xs ∙ xs-is }
+    let long-xs : length xs ≡ k = ap length (sym xs-is) ∙ long in (
+      long-xs,
+      subst Bytes xs-is (all-take Byte k (drop at bs) (all-drop Byte at bs all)),
+      record { inside = omega arith; there = ap (λ m. take m (drop at bs)) long-xs ∙ xs-is },
     )
 
 pub part-on : (k : ℕ) (bs : List ℕ) (at : ℕ) (xs : List ℕ) → length xs ≡ k → Stands bs at xs → part-at k bs at ≡ Ok xs
@@ -65,9 +65,9 @@ pub number-back : (k : ℕ) (bs : List ℕ) (at n : ℕ) → Bytes bs → number
 number-back k bs at n all e =
     let a = then-ok (part-at k bs at) (λ part. Ok (number-of part)) e in
     let p = part-back k bs at (a .0) all (a .1) in
-    let n-is : number-of (a .0) ≡ n = ok-same (a .2) in
-    ( subst (Fits k) n-is (number-fits k (a .0) (p .0) (p .1))
-    , subst (Stands bs at) (sym (put-number k (a .0) (p .0) (p .1)) ∙ ap (put k) n-is) (p .2)
+    let n-is : number-of (a .0) ≡ n = ok-same (a .2) in (
+      subst (Fits k) n-is (number-fits k (a .0) (p .0) (p .1)),
+      subst (Stands bs at) (sym (put-number k (a .0) (p .0) (p .1)) ∙ ap (put k) n-is) (p .2),
     )
 
 pub number-on : (k : ℕ) (bs : List ℕ) (at n : ℕ) → Fits k n → Stands bs at (put k n) → number-at k bs at ≡ Ok n
@@ -82,9 +82,9 @@ view-back low high bs at n all e =
     let t = and-parts (leb low (a .0)) (leb (a .0) high) (c .0) in
     let n-is : a .0 ≡ n = ok-same (c .1) in
     subst (λ m. (low ≤ m) × (m ≤ high) × Stands bs at (put 4 m)) n-is
-      (leb-true low (a .0) (t .0), leb-true (a .0) high (t .1), number-back 4 bs at (a .0) all (a .1) .1)
+    (leb-true low (a .0) (t .0), leb-true (a .0) high (t .1), number-back 4 bs at (a .0) all (a .1) .1)
 
 pub view-on : (low high : ℕ) (bs : List ℕ) (at n : ℕ) → low ≤ n → n ≤ high → Fits 4 high → Stands bs at (put 4 n) → view-at low high bs at ≡ Ok n
 view-on low high bs at n l h f s =
     then-on (λ view. check (leb low view && leb view high) at (Ok view)) (number-on 4 bs at n (omega arith) s)
-      (check-on at (and-from (leb low n) (leb n high) (le-leb low n l) (le-leb n high h)) refl)
+    (check-on at (and-from (leb low n) (leb n high) (le-leb low n l) (le-leb n high h)) refl)

@@ -103,35 +103,35 @@ pub first-back : First-back
 first-back n low ten bs all r end e =
     then-by (mark-at bs) _ e (λ m read e₁.
     got-first record-bytes (Right-record n) bs r end
-      (record-behind-back n ten bs all m r end (mark-back bs all m read) e₁))
+    (record-behind-back n ten bs all m r end (mark-back bs all m read) e₁))
 
 pub record-back : Record-back
 record-back n low ten bs all r e =
     then-by (first-of n bs) _ e (λ got first e₂.
     then-by (mark-at bs) _ first (λ m read-m read.
     whole-back record-bytes (Right-record n) bs got r
-      (record-behind-back n ten bs all m (got .0) (got .1) (mark-back bs all m read-m) read) e₂))
+    (record-behind-back n ten bs all m (got .0) (got .1) (mark-back bs all m read-m) read) e₂))
 
 pub arrival-back : Arrival-back
 arrival-back n low ten bs all a e =
     then-by (mark-at bs) _ e (λ m read-m e₁.
     then-by (arrival-behind n bs m) _ e₁ (λ got read e₂.
     whole-back arrival-bytes (Right-arrival n) bs got a
-      (arrival-behind-back n ten bs all m (got .0) (got .1) (mark-back bs all m read-m) read) e₂))
+    (arrival-behind-back n ten bs all m (got .0) (got .1) (mark-back bs all m read-m) read) e₂))
 
 pub request-back : Request-back
 request-back bs all r e =
     then-by (mark-at bs) _ e (λ m read-m e₁.
     then-by (request-behind bs m) _ e₁ (λ got read e₂.
     whole-back asking-bytes Right-request bs got r
-      (request-behind-back bs all m (got .0) (got .1) (mark-back bs all m read-m) read) e₂))
+    (request-behind-back bs all m (got .0) (got .1) (mark-back bs all m read-m) read) e₂))
 
 pub inform-back : Inform-back
 inform-back bs all i e =
     then-by (mark-at bs) _ e (λ m read-m e₁.
     then-by (inform-behind bs m) _ e₁ (λ got read e₂.
     whole-back telling-bytes Right-inform bs got i
-      (inform-behind-back bs all m (got .0) (got .1) (mark-back bs all m read-m) read) e₂))
+    (inform-behind-back bs all m (got .0) (got .1) (mark-back bs all m read-m) read) e₂))
 
 pub first-reads : First-reads
 first-reads n low ten r rest h =
@@ -142,7 +142,7 @@ pub record-reads : Record-reads
 record-reads n low ten r h =
     let b = record-behind-on n ten (record-bytes r) r h (stands-whole (record-bytes r)) in
     let first : first-of n (record-bytes r) ≡ Ok (r, length (record-bytes r)) =
-      then-on _ (mark-on (record-bytes r) (record-kind r) (b .0)) (b .1) in
+    then-on _ (mark-on (record-bytes r) (record-kind r) (b .0)) (b .1) in
     then-on _ first (whole-on (record-bytes r) r)
 
 pub arrival-reads : Arrival-reads

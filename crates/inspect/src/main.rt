@@ -1,10 +1,13 @@
 // A record by eye. Standard input is a line `ring N`, then records as hex, one to a line. Each is laid out field by
-// field with the places of its fields, or the refusal is named with what stands at its place.
+// field with the places of its fields, or the refusal is named with what stands at its place. After lines `key NUMBER HEX`,
+// with a signer's number and its key of 16 bytes, it also says of each seal whether it is genuine.
+mod keys;
 mod page;
 mod parts;
 
 use chain::links::check_chain;
 use hex::decode;
+use keys::Keys;
 use page::Page;
 use parts::fields;
 use parts::title;
@@ -13,6 +16,8 @@ use quorum::refusal::Fault;
 use quorum::refusal::FaultDisplay;
 use reader::reading::read_record;
 use records::arrivals::Record;
+use siphash::Key;
+use std::alloc::Global;
 use std::error::AnyError;
 use std::io;
 use std::io::BufRead;
@@ -44,13 +49,13 @@ fn show_place(rt: &LibcRuntime, stations: usize, fault: Fault, bytes: &[u8]) -> 
     println!(rt, "")
 }
 
-fn show(rt: &LibcRuntime, stations: usize, bytes: &[u8]) -> io::Result<()> {
+fn show(rt: &LibcRuntime, stations: usize, keys: &Keys, bytes: &[u8]) -> io::Result<()> {
     match read(stations, bytes) {
         Ok(message) => {
             let name = title(&message);
             println!(rt, "{name}")?;
             let mut page = Page::new(rt);
-            fields(&mut page, &message)
+            fields(&mut page, keys, &message)
         }
         Err(fault) => {
             println!(rt, "refused {fault}")?;
@@ -59,20 +64,57 @@ fn show(rt: &LibcRuntime, stations: usize, bytes: &[u8]) -> io::Result<()> {
     }
 }
 
-// One line of input: a new ring, or a record; what is neither is said to be so.
-fn line(rt: &LibcRuntime, stations: &mut usize, text: &str) -> Result<(), AnyError> {
-    if let Some(number) = text.strip_prefix("ring ") {
-        match number.parse::<usize>() {
-            Ok(n) => {
-                *stations = n;
-                println!(rt, "ring of {n}")?;
-            }
-            Err(_) => println!(rt, "no number of stations: {number}")?,
-        }
-        return Ok(());
+// A line `key NUMBER HEX`, without its first word.
+fn key_line(heap: Global, text: &str) -> Result<Option<(u16, Key)>, AnyError> {
+    let Some((number, digits)) = text.split_once(' ') else {
+        return Ok(None);
+    };
+    let Ok(signer) = number.parse::<u16>() else {
+        return Ok(None);
+    };
+    let Some(bytes) = decode(heap, digits.as_bytes())? else {
+        return Ok(None);
+    };
+    match <[u8; 16]>::try_from(bytes.as_slice()) {
+        Ok(key) => Ok(Some((signer, Key(key)))),
+        Err(_) => Ok(None),
     }
+}
+
+fn add_key(rt: &LibcRuntime, keys: Keys, text: &str) -> Result<Keys, AnyError> {
+    match key_line(rt.alloc(), text)? {
+        None => {
+            println!(rt, "no key: {text}")?;
+            Ok(keys)
+        }
+        Some((signer, key)) => {
+            let (more, answer) = keys.add(signer, key);
+            match answer {
+                Ok(()) => println!(rt, "key of {signer}")?,
+                Err(fault) => println!(rt, "refused {fault}")?,
+            }
+            Ok(more)
+        }
+    }
+}
+
+fn ring_line(rt: &LibcRuntime, stations: usize, number: &str) -> io::Result<usize> {
+    match number.parse::<usize>() {
+        Ok(n) => {
+            println!(rt, "ring of {n}")?;
+            Ok(n)
+        }
+        Err(_) => {
+            println!(rt, "no number of stations: {number}")?;
+            Ok(stations)
+        }
+    }
+}
+
+// A line that is a record, or is said to be none.
+fn record_line(rt: &LibcRuntime, stations: usize, keys: &Keys, text: &str) -> Result<(), AnyError> {
     match decode(rt.alloc(), text.as_bytes())? {
-        Some(bytes) => show(rt, *stations, bytes.as_slice())?,
+        Some(bytes) => show(rt, stations, keys, bytes.as_slice())?,
         None => println!(rt, "no hex: {text}")?,
     }
     Ok(())
@@ -80,9 +122,17 @@ fn line(rt: &LibcRuntime, stations: &mut usize, text: &str) -> Result<(), AnyErr
 
 fn run(rt: &LibcRuntime) -> Result<(), AnyError> {
     let mut stations = 0;
+    let mut keys = Keys::None;
     for text in BufReader::new(rt.stdin()).lines(rt.alloc()) {
         let text = text?;
-        line(rt, &mut stations, text.as_str())?;
+        let line = text.as_str();
+        if let Some(number) = line.strip_prefix("ring ") {
+            stations = ring_line(rt, stations, number)?;
+        } else if let Some(rest) = line.strip_prefix("key ") {
+            keys = add_key(rt, keys, rest)?;
+        } else {
+            record_line(rt, stations, &keys, line)?;
+        }
     }
     Ok(())
 }

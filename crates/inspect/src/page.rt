@@ -1,5 +1,7 @@
 // A page on which a record is laid out field by field: each line has the field's name, the place of its first byte and
-// its value.
+// its value, and of a seal whether it is genuine, once keys are given.
+use crate::keys::Verdict;
+use crate::keys::VerdictDisplay;
 use std::io;
 
 #[derive(Drop)]
@@ -13,7 +15,11 @@ pub struct Page<'a> {
 
 impl<'a> Page<'a> {
     pub fn new(rt: &'a LibcRuntime) -> Page<'a> {
-        Page { rt, at: 0, depth: 1 }
+        Page {
+            rt,
+            at: 0,
+            depth: 1,
+        }
     }
 
     fn pad(&self) -> &'static str {
@@ -53,10 +59,10 @@ impl<'a> Page<'a> {
         Ok(())
     }
 
-    pub fn seal(&mut self, name: &str, value: u64) -> io::Result<()> {
+    pub fn seal(&mut self, value: u64, verdict: Verdict) -> io::Result<()> {
         let pad = self.pad();
         let at = self.at;
-        println!(self.rt, "{pad}{name} at {at}: {value:016x}")?;
+        println!(self.rt, "{pad}seal at {at}: {value:016x}{verdict}")?;
         self.skip(8);
         Ok(())
     }

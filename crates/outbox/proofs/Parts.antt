@@ -44,12 +44,12 @@ at-place {m} {m₁} {at} {b} {xs} v =
 
 -- nothing written
 pub part-none : (m : List ℕ) (at : ℕ) → at ≤ length m → Written m m at [] (Ok at)
-part-none m at h = record
-  { answered = grind (arith, tells)
-  ; long = refl
-  ; below = refl
-  ; added = λ _. rw (let e : at + 0 ≡ at = omega arith in e) (sym (append-nil (take at m)))
-  }
+part-none m at h = record {
+  answered = grind (arith, tells);
+  long = refl;
+  below = refl;
+  added = λ _. rw (let e : at + 0 ≡ at = omega arith in e) (sym (append-nil (take at m)));
+}
 
 -- a part, and what follows it
 pub part-then : {m m₁ m₂ : List ℕ} {at b : ℕ} {xs ys : List ℕ} {r : Result ℕ Fault} → Written m m₁ at xs (Ok b) → Written m₁ m₂ b ys r → Written m m₂ at (xs ++ ys) r
@@ -62,17 +62,17 @@ part-then {m} {m₁} {m₂} {at} {b} {xs} {ys} {r} v w =
     let first : take b m₁ ≡ take at m ++ xs = rw b-is (v .added fits) in
     let at-long : length (take at m) ≡ at = length-take-le at m (omega arith) in
     let kept : take at m₂ ≡ take at m =
-      sym (take-take at b m₂ (omega arith))
-      ∙ ap (take at) (w .below ∙ first)
-      ∙ take-append-le at (take at m) xs (omega arith)
-      ∙ take-take at at m (omega arith) in
-    record
-    { answered = w .answered ∙ ap (λ k. room k b (length ys)) (v .long) ∙ ap (λ k. cond (leb k (length m)) (Ok k) (Err NoRoom)) end-is
-    ; long = w .long ∙ v .long
-    ; below = kept
-    ; added = λ h.
-      subst (λ k. take k m₂ ≡ take at m ++ (xs ++ ys)) end-is
-      (w .added (let l = v .long in omega arith) ∙ ap (λ l. l ++ ys) first ∙ append-assoc (take at m) xs ys)
+    sym (take-take at b m₂ (omega arith))
+    ∙ ap (take at) (w .below ∙ first)
+    ∙ take-append-le at (take at m) xs (omega arith)
+    ∙ take-take at at m (omega arith) in
+    record {
+      answered = w .answered ∙ ap (λ k. room k b (length ys)) (v .long) ∙ ap (λ k. cond (leb k (length m)) (Ok k) (Err NoRoom)) end-is;
+      long = w .long ∙ v .long;
+      below = kept;
+      added = λ h.
+          subst (λ k. take k m₂ ≡ take at m ++ (xs ++ ys)) end-is
+          (w .added (let l = v .long in omega arith) ∙ ap (λ l. l ++ ys) first ∙ append-assoc (take at m) xs ys);
     }
 
 -- a part without room, whatever should follow
@@ -82,11 +82,11 @@ part-stop {m} {m₁} {at} {xs} {f} ys v =
     let both : length (xs ++ ys) ≡ length xs + length ys = length-append xs ys in
     let over : length m < at + length (xs ++ ys) = let o = none .1 in omega arith in
     let is : f ≡ NoRoom = none .0 in
-    record
-    { answered = grind (arith, tells)
-    ; long = v .long
-    ; below = v .below
-    ; added = λ h. absurd (omega arith)
+    record {
+      answered = grind (arith, tells);
+      long = v .long;
+      below = v .below;
+      added = λ h. absurd (omega arith);
     }
 
 -- a fault that `?` passes on
@@ -131,11 +131,11 @@ sent-whole {m} {m₁} {used} {end} {xs} used′ v e =
     let is = had .0 in
     let full : used′ ≡ used + length xs = e ∙ is in
     let yes-room : leb (used + length xs) (length m) ≡ true = le-leb (used + length xs) (length m) fits in
-    record
-    { answered = sym (cond-true (leb (used + length xs) (length m)) (Ok tt) (Err NoRoom) yes-room)
-    ; filled = full ∙ sym (cond-true (leb (used + length xs) (length m)) (used + length xs) used yes-room)
-    ; below = v .below
-    ; added = v .added
+    record {
+      answered = sym (cond-true (leb (used + length xs) (length m)) (Ok tt) (Err NoRoom) yes-room);
+      filled = full ∙ sym (cond-true (leb (used + length xs) (length m)) (used + length xs) used yes-room);
+      below = v .below;
+      added = v .added;
     }
 
 -- a record without room, with the fill put back
@@ -144,11 +144,11 @@ sent-none {m} {m₁} {used} {xs} {f} used′ r e v back =
     let p = err-from-errBy r e in
     let none = no-room (length m) used (length xs) f (v .answered) in
     let no-more : leb (used + length xs) (length m) ≡ false = lt-leb (used + length xs) (length m) (none .1) in
-    record
-    { answered = p .1 ∙ ap Err (p .2 ∙ none .0) ∙ sym (cond-false (leb (used + length xs) (length m)) (Ok tt) (Err NoRoom) no-more)
-    ; filled = back ∙ sym (cond-false (leb (used + length xs) (length m)) (used + length xs) used no-more)
-    ; below = v .below
-    ; added = v .added
+    record {
+      answered = p .1 ∙ ap Err (p .2 ∙ none .0) ∙ sym (cond-false (leb (used + length xs) (length m)) (Ok tt) (Err NoRoom) no-more);
+      filled = back ∙ sym (cond-false (leb (used + length xs) (length m)) (used + length xs) used no-more);
+      below = v .below;
+      added = v .added;
     }
 
 -- what was just written is what the memory shows there
@@ -173,9 +173,9 @@ sent-back {m} {m₁} {used} {used′} sent (Ok u) s = λ n some few right.
     let ends : used′ ≡ used + length (record-bytes sent) = let f = s .filled in grind (arith, tells) in
     let at-long : length (take used m) ≡ used = length-take-le used m (omega arith) in
     let shown : between used used′ m₁ ≡ record-bytes sent =
-      between-is m₁ used used′
-      ∙ ap (λ k. drop used (take k m₁)) ends
-      ∙ ap (drop used) (s .added fits)
-      ∙ drop-at (take used m) (record-bytes sent) used at-long in
+    between-is m₁ used used′
+    ∙ ap (λ k. drop used (take k m₁)) ends
+    ∙ ap (drop used) (s .added fits)
+    ∙ drop-at (take used m) (record-bytes sent) used at-long in
     ap (record-of n) shown ∙ record-reads n some few sent right
 sent-back sent (Err f) s = tt

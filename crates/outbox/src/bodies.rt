@@ -13,9 +13,9 @@ use crate::puts::put_asked;
 use crate::puts::put_claim;
 use crate::puts::put_head;
 use crate::puts::put_mark;
+use crate::puts::put_u8;
 use crate::puts::put_u32;
 use crate::puts::put_u64;
-use crate::puts::put_u8;
 use quorum::refusal::Fault;
 use records::arrivals::Arrival;
 use records::arrivals::Failure;
@@ -99,10 +99,28 @@ fn put_said(memory: &mut [u8], at: usize, arrival: &Arrival) -> Result<usize, Fa
     ensures { λ r. ⌜ Written (now (memory .entry)) (now (memory .exit)) at (said-bytes (said-by (now (arrival .entry)))) r ⌝ }
 {
     match arrival {
-        Arrival::Propose(propose) => put_claim(memory, at, Mark::Propose, propose.sender, &propose.proposal),
-        Arrival::Prepare(prepare) => put_claim(memory, at, Mark::Prepare, prepare.sender, &prepare.proposal),
+        Arrival::Propose(propose) => put_claim(
+            memory,
+            at,
+            Mark::Propose,
+            propose.sender,
+            &propose.proposal,
+        ),
+        Arrival::Prepare(prepare) => put_claim(
+            memory,
+            at,
+            Mark::Prepare,
+            prepare.sender,
+            &prepare.proposal,
+        ),
         Arrival::CheckCommit(check) => {
-            put_claim(memory, at, Mark::CheckCommit, check.sender, &check.prepared.proposal)
+            put_claim(
+                memory,
+                at,
+                Mark::CheckCommit,
+                check.sender,
+                &check.prepared.proposal,
+            )
         }
         Arrival::Failure(failure) => put_failure_body(memory, at, failure),
         Arrival::ViewState(state) => put_state_body(memory, at, state),

@@ -7,9 +7,9 @@ ghost use Rattle.std.specs.Joined.{joined};
 ghost use Rattle.records.specs.Numbers.{put, mask-of};
 ghost use Rattle.records.specs.Writing.{seal-bytes, seals-bytes, certificate-bytes, commit-bytes, prepared-bytes};
 use crate::puts::put_proposal;
+use crate::puts::put_u8;
 use crate::puts::put_u16;
 use crate::puts::put_u64;
-use crate::puts::put_u8;
 use quorum::refusal::Fault;
 use records::certificate::Certificate;
 
@@ -54,14 +54,22 @@ fn put_slots(memory: &mut [u8], at: usize, seals: &[Option<u64>]) -> Result<usiz
 }
 
 // The mask, and the seals behind it.
-pub(crate) fn put_seals(memory: &mut [u8], at: usize, seals: &[Option<u64>; 10]) -> Result<usize, Fault>
+pub(crate) fn put_seals(
+    memory: &mut [u8],
+    at: usize,
+    seals: &[Option<u64>; 10],
+) -> Result<usize, Fault>
     ensures { λ r. ⌜ Written (now (memory .entry)) (now (memory .exit)) at (seals-bytes (now (seals .entry))) r ⌝ }
 {
     let slots_at = put_mask(memory, at, seals)?;
     put_slots(memory, slots_at, seals)
 }
 
-pub(crate) fn put_certificate(memory: &mut [u8], at: usize, certificate: &Certificate) -> Result<usize, Fault>
+pub(crate) fn put_certificate(
+    memory: &mut [u8],
+    at: usize,
+    certificate: &Certificate,
+) -> Result<usize, Fault>
     ensures { λ r. ⌜ Written (now (memory .entry)) (now (memory .exit)) at (certificate-bytes (now (certificate .entry))) r ⌝ }
 {
     let seals_at = put_proposal(memory, at, &certificate.proposal)?;
@@ -69,7 +77,11 @@ pub(crate) fn put_certificate(memory: &mut [u8], at: usize, certificate: &Certif
 }
 
 // None or one certificate, behind its count.
-pub(crate) fn put_commit(memory: &mut [u8], at: usize, commit: &Option<Certificate>) -> Result<usize, Fault>
+pub(crate) fn put_commit(
+    memory: &mut [u8],
+    at: usize,
+    commit: &Option<Certificate>,
+) -> Result<usize, Fault>
     ensures { λ r. ⌜ Written (now (memory .entry)) (now (memory .exit)) at (commit-bytes (now (commit .entry))) r ⌝ }
 {
     match commit {
@@ -82,7 +94,11 @@ pub(crate) fn put_commit(memory: &mut [u8], at: usize, commit: &Option<Certifica
 }
 
 // Certificates one after another.
-fn put_certificates(memory: &mut [u8], at: usize, certificates: &[Certificate]) -> Result<usize, Fault>
+fn put_certificates(
+    memory: &mut [u8],
+    at: usize,
+    certificates: &[Certificate],
+) -> Result<usize, Fault>
     requires { ⌜ at ≤ length (now memory) ⌝ }
     ensures { λ r. ⌜ Written (now (memory .entry)) (now (memory .exit)) at (joined certificate-bytes (now (certificates .entry))) r ⌝ }
 {
@@ -94,7 +110,11 @@ fn put_certificates(memory: &mut [u8], at: usize, certificates: &[Certificate]) 
 }
 
 // Certificates behind their count.
-pub(crate) fn put_prepared(memory: &mut [u8], at: usize, certificates: &[Certificate]) -> Result<usize, Fault>
+pub(crate) fn put_prepared(
+    memory: &mut [u8],
+    at: usize,
+    certificates: &[Certificate],
+) -> Result<usize, Fault>
     requires { ⌜ length (now certificates) ≤ 8 ⌝ }
     ensures { λ r. ⌜ Written (now (memory .entry)) (now (memory .exit)) at (prepared-bytes (now (certificates .entry))) r ⌝ }
 {

@@ -74,7 +74,11 @@ pub(crate) fn put_request(memory: &mut [u8], at: usize, request: &Request) -> Re
     put_u64(memory, seal_at, request.seal)
 }
 
-pub(crate) fn put_proposal(memory: &mut [u8], at: usize, proposal: &Proposal) -> Result<usize, Fault>
+pub(crate) fn put_proposal(
+    memory: &mut [u8],
+    at: usize,
+    proposal: &Proposal,
+) -> Result<usize, Fault>
     ensures { λ r. ⌜ Written (now (memory .entry)) (now (memory .exit)) at (proposal-bytes (now (proposal .entry))) r ⌝ }
 {
     let round_at = put_u32(memory, at, proposal.view)?;

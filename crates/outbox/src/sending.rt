@@ -17,7 +17,11 @@ pub fn write(message: &Record, memory: &mut [u8], fill: &mut Fill) -> Result<(),
     ensures back { λ r. ⌜ Reads-back (now (memory .exit)) (now (fill .entry) .used) (now (fill .exit) .used) (now (message .entry)) r ⌝ }
 {
     let start = fill.used;
-    let mut draft = Draft { fill, start, closed: false };
+    let mut draft = Draft {
+        fill,
+        start,
+        closed: false,
+    };
     let covered_end = put_covered(memory, start, message)?;
     draft.fill.used = covered_end;
     let seal_at = put_rest(memory, covered_end, message)?;
@@ -29,12 +33,21 @@ pub fn write(message: &Record, memory: &mut [u8], fill: &mut Fill) -> Result<(),
 }
 
 // A record under a seal box's own seal, whatever seal it holds: the box seals the part of the tray just written.
-pub fn send<B: SealBox>(seals: &B, message: &Record, memory: &mut [u8], fill: &mut Fill) -> Result<(), Fault>
+pub fn send<B: SealBox>(
+    seals: &B,
+    message: &Record,
+    memory: &mut [u8],
+    fill: &mut Fill,
+) -> Result<(), Fault>
     ensures sent { λ r. ⌜ Sent (now (memory .entry)) (now (memory .exit)) (now (fill .entry) .used) (now (fill .exit) .used) (record-bytes (under-seal (now (message .entry)) (tag (now (seals .entry)) (covered (now (message .entry)))))) r ⌝ }
     ensures back { λ r. ⌜ Reads-back (now (memory .exit)) (now (fill .entry) .used) (now (fill .exit) .used) (under-seal (now (message .entry)) (tag (now (seals .entry)) (covered (now (message .entry))))) r ⌝ }
 {
     let start = fill.used;
-    let mut draft = Draft { fill, start, closed: false };
+    let mut draft = Draft {
+        fill,
+        start,
+        closed: false,
+    };
     let covered_end = put_covered(memory, start, message)?;
     draft.fill.used = covered_end;
     let tag = seals.seal(&memory[start..covered_end]);

@@ -24,6 +24,10 @@ impl Drop for Draft<'_> {
         if !self.closed {
             self.fill.used = self.start;
         }
-        let Draft { fill: _, start: _, closed: _ } = self;
+        let Draft {
+            fill: _,
+            start: _,
+            closed: _,
+        } = self;
     }
 }

@@ -93,7 +93,11 @@ fn agrees(heap: Global, origin: Origin, line: &str) -> Result<bool, AnyError> {
     match origin {
         Origin::Framing => {
             let mut parts = line.splitn(3, ' ');
-            let (Some(stations), Some(text), Some(expected)) = (parts.next(), parts.next(), parts.next()) else {
+            let (Some(stations), Some(text), Some(expected)) = (
+                parts.next(),
+                parts.next(),
+                parts.next(),
+            ) else {
                 return Err("a case without three parts".into());
             };
             let said = framed(heap, stations, text)?;
@@ -101,7 +105,8 @@ fn agrees(heap: Global, origin: Origin, line: &str) -> Result<bool, AnyError> {
         }
         Origin::Arrival => {
             let mut parts = line.splitn(4, ' ');
-            let (Some(stations), Some(own), Some(text)) = (parts.next(), parts.next(), parts.next()) else {
+            let (Some(stations), Some(own), Some(text)) = (parts.next(), parts.next(), parts.next())
+            else {
                 return Err("a case without four parts".into());
             };
             let Some(expected) = parts.next() else {

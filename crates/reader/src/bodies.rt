@@ -9,21 +9,21 @@ use crate::certificates::commit_at;
 use crate::certificates::prepared_at;
 use crate::fields::LAST_VIEW;
 use crate::fields::proposal_at;
+use crate::fields::u8_at;
 use crate::fields::u16_at;
 use crate::fields::u64_at;
-use crate::fields::u8_at;
 use crate::fields::view_at;
 use quorum::figures::Ring;
 use quorum::refusal::Fault;
 use records::arrivals::CheckCommit;
 use records::arrivals::Failure;
 use records::arrivals::Inform;
+use records::arrivals::NewView;
 use records::arrivals::Prepare;
 use records::arrivals::Propose;
-use records::arrivals::NewView;
 use records::arrivals::ViewState;
-use records::few::Few;
 use records::certificate::sizes::certificate_size;
+use records::few::Few;
 use records::marks;
 
 // a view that can still fail, so that there is one after it
@@ -35,7 +35,11 @@ pub(crate) fn propose_in(bytes: &[u8]) -> Result<Propose, Fault>
     let sender = u8_at(bytes, 2)?;
     let proposal = proposal_at(bytes, 3)?;
     let seal = u64_at(bytes, 41)?;
-    Ok(Propose { sender, proposal, seal })
+    Ok(Propose {
+        sender,
+        proposal,
+        seal,
+    })
 }
 
 pub(crate) fn prepare_in(bytes: &[u8]) -> Result<Prepare, Fault>
@@ -44,7 +48,11 @@ pub(crate) fn prepare_in(bytes: &[u8]) -> Result<Prepare, Fault>
     let sender = u8_at(bytes, 2)?;
     let proposal = proposal_at(bytes, 3)?;
     let seal = u64_at(bytes, 41)?;
-    Ok(Prepare { sender, proposal, seal })
+    Ok(Prepare {
+        sender,
+        proposal,
+        seal,
+    })
 }
 
 pub(crate) fn check_commit_in(ring: Ring, bytes: &[u8]) -> Result<CheckCommit, Fault>
@@ -53,7 +61,11 @@ pub(crate) fn check_commit_in(ring: Ring, bytes: &[u8]) -> Result<CheckCommit, F
     let sender = u8_at(bytes, 2)?;
     let prepared = certificate_at(ring, bytes, 3)?;
     let seal = u64_at(bytes, 3 + certificate_size(ring))?;
-    Ok(CheckCommit { sender, prepared, seal })
+    Ok(CheckCommit {
+        sender,
+        prepared,
+        seal,
+    })
 }
 
 pub(crate) fn inform_in(bytes: &[u8]) -> Result<Inform, Fault>
@@ -63,7 +75,12 @@ pub(crate) fn inform_in(bytes: &[u8]) -> Result<Inform, Fault>
     let proposal = proposal_at(bytes, 3)?;
     let result = u64_at(bytes, 41)?;
     let seal = u64_at(bytes, 49)?;
-    Ok(Inform { sender, proposal, result, seal })
+    Ok(Inform {
+        sender,
+        proposal,
+        result,
+        seal,
+    })
 }
 
 pub(crate) fn failure_in(bytes: &[u8]) -> Result<Failure, Fault>
@@ -89,11 +106,25 @@ pub(crate) fn state_at(ring: Ring, bytes: &[u8], at: usize) -> Result<(ViewState
     let (commit, after_commit) = commit_at(ring, bytes, at + 7)?;
     let (prepared, after_prepared) = prepared_at(ring, bytes, after_commit)?;
     let seal = u64_at(bytes, after_prepared)?;
-    Ok((ViewState { sender, view, commit, prepared, seal }, after_prepared + 8))
+    Ok((
+        ViewState {
+            sender,
+            view,
+            commit,
+            prepared,
+            seal,
+        },
+        after_prepared + 8,
+    ))
 }
 
 // So many view states one after another, and the place after them.
-fn members_at(ring: Ring, bytes: &[u8], at: usize, count: usize) -> Result<(Few<ViewState, 7>, usize), Fault>
+fn members_at(
+    ring: Ring,
+    bytes: &[u8],
+    at: usize,
+    count: usize,
+) -> Result<(Few<ViewState, 7>, usize), Fault>
     requires { ⌜ at ≤ 8 ⌝ ∗ ⌜ count ≤ 7 ⌝ }
     ensures value { λ r. ⌜ r ≡ members-at (stations-of ring) (now (bytes .entry)) at count ⌝ }
     ensures bound { λ r. ⌜ made r (λ p. p .1 ≤ at + 6167) ⌝ }
@@ -120,5 +151,13 @@ pub(crate) fn new_view_in(ring: Ring, bytes: &[u8]) -> Result<(NewView, usize), 
     }
     let (states, after_states) = members_at(ring, bytes, 8, count as usize)?;
     let seal = u64_at(bytes, after_states)?;
-    Ok((NewView { sender, view, states, seal }, after_states + 8))
+    Ok((
+        NewView {
+            sender,
+            view,
+            states,
+            seal,
+        },
+        after_states + 8,
+    ))
 }

@@ -5,9 +5,9 @@ ghost use Rattle.quorum.specs.Rings.{stations-of};
 ghost use Rattle.std.specs.Vec.{made};
 ghost use Rattle.records.specs.Reading.{slot-at, seals-at, certificate-at, listed-at, commit-at, gathered-at, prepared-at};
 use crate::fields::proposal_at;
+use crate::fields::u8_at;
 use crate::fields::u16_at;
 use crate::fields::u64_at;
-use crate::fields::u8_at;
 use quorum::figures::Ring;
 use quorum::refusal::Fault;
 use records::certificate::Certificate;
@@ -15,6 +15,7 @@ use records::certificate::sizes::certificate_size;
 use records::few::Few;
 
 const PLACES: usize = 10;
+
 const MOST_PREPARED: usize = 8;
 
 // The seal of station i, where the mask shows it, and the place after it.
@@ -69,7 +70,11 @@ fn listed_at(ring: Ring, bytes: &[u8], at: usize) -> Result<(Certificate, usize)
 }
 
 // None or one certificate after its count, and the place after it.
-pub(crate) fn commit_at(ring: Ring, bytes: &[u8], at: usize) -> Result<(Option<Certificate>, usize), Fault>
+pub(crate) fn commit_at(
+    ring: Ring,
+    bytes: &[u8],
+    at: usize,
+) -> Result<(Option<Certificate>, usize), Fault>
     requires { ⌜ at ≤ 7700 ⌝ }
     ensures value { λ r. ⌜ r ≡ commit-at (stations-of ring) (now (bytes .entry)) at ⌝ }
     ensures bound { λ r. ⌜ made r (λ p. p .1 ≤ at + 97) ⌝ }
@@ -85,7 +90,12 @@ pub(crate) fn commit_at(ring: Ring, bytes: &[u8], at: usize) -> Result<(Option<C
 }
 
 // So many certificates one after another, and the place after them.
-fn certificates_at(ring: Ring, bytes: &[u8], at: usize, count: usize) -> Result<(Few<Certificate, 8>, usize), Fault>
+fn certificates_at(
+    ring: Ring,
+    bytes: &[u8],
+    at: usize,
+    count: usize,
+) -> Result<(Few<Certificate, 8>, usize), Fault>
     requires { ⌜ at ≤ 6500 ⌝ ∗ ⌜ count ≤ 8 ⌝ }
     ensures value { λ r. ⌜ r ≡ gathered-at (stations-of ring) (now (bytes .entry)) at count ⌝ }
     ensures bound { λ r. ⌜ made r (λ p. p .1 ≤ at + 768) ⌝ }
@@ -101,7 +111,11 @@ fn certificates_at(ring: Ring, bytes: &[u8], at: usize, count: usize) -> Result<
 }
 
 // None to eight certificates after their count, and the place after them.
-pub(crate) fn prepared_at(ring: Ring, bytes: &[u8], at: usize) -> Result<(Few<Certificate, 8>, usize), Fault>
+pub(crate) fn prepared_at(
+    ring: Ring,
+    bytes: &[u8],
+    at: usize,
+) -> Result<(Few<Certificate, 8>, usize), Fault>
     requires { ⌜ at ≤ 6400 ⌝ }
     ensures value { λ r. ⌜ r ≡ prepared-at (stations-of ring) (now (bytes .entry)) at ⌝ }
     ensures bound { λ r. ⌜ made r (λ p. p .1 ≤ at + 769) ⌝ }

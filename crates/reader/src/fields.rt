@@ -8,7 +8,9 @@ use records::request::Proposal;
 use records::request::Request;
 
 const FIRST_CLIENT: u16 = 1000;
+
 const FIRST_SEQUENCE: u32 = 1;
+
 pub(crate) const LAST_VIEW: u32 = 1000000;
 
 // N bytes.
@@ -78,9 +80,16 @@ pub(crate) fn request_at(bytes: &[u8], at: usize) -> Result<Request, Fault>
     if sequence < FIRST_SEQUENCE {
         return Err(Fault::Unreadable(at + 2));
     }
-    let payload = Payload { bytes: part_at(bytes, at + 6)? };
+    let payload = Payload {
+        bytes: part_at(bytes, at + 6)?,
+    };
     let seal = u64_at(bytes, at + 22)?;
-    Ok(Request { client, sequence, payload, seal })
+    Ok(Request {
+        client,
+        sequence,
+        payload,
+        seal,
+    })
 }
 
 pub(crate) fn proposal_at(bytes: &[u8], at: usize) -> Result<Proposal, Fault>
@@ -90,5 +99,9 @@ pub(crate) fn proposal_at(bytes: &[u8], at: usize) -> Result<Proposal, Fault>
     let view = view_at(bytes, at, 0, LAST_VIEW)?;
     let round = u32_at(bytes, at + 4)?;
     let request = request_at(bytes, at + 8)?;
-    Ok(Proposal { view, round, request })
+    Ok(Proposal {
+        view,
+        round,
+        request,
+    })
 }

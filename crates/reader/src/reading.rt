@@ -28,8 +28,11 @@ use records::request::Request;
 
 // where a request, a proposal's record, an inform and a failure end
 const REQUEST_END: usize = 32;
+
 const CLAIM_END: usize = 49;
+
 const INFORM_END: usize = 57;
+
 const FAILURE_END: usize = 15;
 // a check commit's bytes around its certificate
 const CHECK_COMMIT_REST: usize = 11;
@@ -76,7 +79,10 @@ fn arrival_behind(ring: Ring, bytes: &[u8], mark: Mark) -> Result<(Arrival, usiz
         Mark::Prepare => Ok((Arrival::Prepare(prepare_in(bytes)?), CLAIM_END)),
         Mark::CheckCommit => {
             let check = check_commit_in(ring, bytes)?;
-            Ok((Arrival::CheckCommit(check), CHECK_COMMIT_REST + certificate_size(ring)))
+            Ok((
+                Arrival::CheckCommit(check),
+                CHECK_COMMIT_REST + certificate_size(ring),
+            ))
         }
         Mark::Failure => Ok((Arrival::Failure(failure_in(bytes)?), FAILURE_END)),
         Mark::ViewState => {

@@ -41,15 +41,15 @@ gathered-none read blank n at = record { values = []; got = refl; are = ap (λ k
 
 module _ {A : Type 0} {read : ℕ → ℕ → Result (A × ℕ) Fault} {blank : A} {n at i : ℕ} {items : List A} {place : ℕ} (g : Gathered read blank n at i items place) where
   pub gathered-more : {x : A} {next : ℕ} → i < n → read i place ≡ Ok (x, next) → Gathered read blank n at (i + 1) (set items i x) next
-  gathered-more {x} {next} h r = record
-    { values = g .values ++ x ∷ []
-    ; got = several-more read at i (g .values) place x next (g .got) r
-    ; are =
-      ap (λ l. set l i x) (g .are ∙ ap (λ l. g .values ++ l) (rest-step blank n i h))
-      ∙ set-at (g .values) blank (replicate (n - (i + 1)) blank) x i (g .many)
-      ∙ sym (append-assoc (g .values) (x ∷ []) (replicate (n - (i + 1)) blank))
-    ; many = length-push (g .values) x ∙ ap (λ k. k + 1) (g .many)
-    }
+  gathered-more {x} {next} h r = record {
+    values = g .values ++ x ∷ [];
+    got = several-more read at i (g .values) place x next (g .got) r;
+    are =
+        ap (λ l. set l i x) (g .are ∙ ap (λ l. g .values ++ l) (rest-step blank n i h))
+        ∙ set-at (g .values) blank (replicate (n - (i + 1)) blank) x i (g .many)
+        ∙ sym (append-assoc (g .values) (x ∷ []) (replicate (n - (i + 1)) blank));
+    many = length-push (g .values) x ∙ ap (λ k. k + 1) (g .many);
+  }
 
   -- a fault at one value is the fault of all
   pub gathered-fault : (k : ℕ) {e : Fault} → i < k → read i place ≡ Err e → several read at k ≡ Err e
@@ -79,6 +79,7 @@ pub gathered-push : {A : Type 0} {read : ℕ → ℕ → Result (A × ℕ) Fault
 gathered-push {A} {read} {blank} {n} {at} {i} {few} {few′} {place} {x} {next} g long h r e =
     let here : few .len < n = omega arith in
     let e′ : few′ ≡ record { items = set (few .items) (few .len) x; len = few .len + 1 } = e ∙ cond-true (ltb (few .len) n) (record { items = set (few .items) (few .len) x; len = few .len + 1 }) few (lt-ltb (few .len) n here) in
-    let items-are : few′ .items ≡ set (few .items) i x = ap (λ (f : Few A n). f .items) e′ ∙ ap (λ k. set (few .items) k x) long in
-    ( subst (λ l. Gathered read blank n at (i + 1) l next) (sym items-are) (gathered-more g h r)
-    , ap (λ (f : Few A n). f .len) e′ ∙ ap (λ k. k + 1) long)
+    let items-are : few′ .items ≡ set (few .items) i x = ap (λ (f : Few A n). f .items) e′ ∙ ap (λ k. set (few .items) k x) long in (
+      subst (λ l. Gathered read blank n at (i + 1) l next) (sym items-are) (gathered-more g h r),
+      ap (λ (f : Few A n). f .len) e′ ∙ ap (λ k. k + 1) long,
+    )

@@ -7,11 +7,11 @@ use Rattle.records.specs.declared.certificate.Certificate.{Certificate}
 use Rattle.records.specs.declared.arrivals.ViewState.{ViewState}
 
 abbrev pub blank-proposal : Proposal
-blank-proposal = record
-  { view = 0
-  ; round = 0
-  ; request = record { client = 0; sequence = 0; payload = record { bytes = replicate 16 0 }; seal = 0 }
-  }
+blank-proposal = record {
+  view = 0;
+  round = 0;
+  request = record { client = 0; sequence = 0; payload = record { bytes = replicate 16 0 }; seal = 0 };
+}
 
 abbrev pub blank-certificate : Certificate
 blank-certificate = record { proposal = blank-proposal; seals = replicate 10 None }

@@ -137,9 +137,10 @@ state-at n bs at =
     commit-at n bs (at + 7) then (λ commit.
     prepared-at n bs (commit .1) then (λ prepared.
     number-at 8 bs (prepared .1) then (λ seal.
-    Ok
-    ( record { sender = sender; view = view; commit = commit .0; prepared = prepared .0; seal = seal }
-    , prepared .1 + 8))))))))
+    Ok (
+      record { sender = sender; view = view; commit = commit .0; prepared = prepared .0; seal = seal },
+      prepared .1 + 8,
+    ))))))))
 
 -- a sender and its proposal, after the mark: what a Propose and a Prepare hold
 abbrev pub propose-in : List ℕ → Result Propose Fault
@@ -195,9 +196,10 @@ new-view-in n bs =
     number-at 1 bs 7 then (λ count. check (eqb count (quorum-of n)) 7 (
     members-at n bs 8 count then (λ states.
     number-at 8 bs (states .1) then (λ seal.
-    Ok
-    ( record { sender = sender; view = view; states = states .0; seal = seal }
-    , states .1 + 8)))))))
+    Ok (
+      record { sender = sender; view = view; states = states .0; seal = seal },
+      states .1 + 8,
+    )))))))
 
 -- a call takes only some marks; any other is a fault at the mark
 abbrev pub refused-mark : {A : Type 0} → Result A Fault

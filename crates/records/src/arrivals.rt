@@ -61,7 +61,10 @@ impl ViewState {
         sender: 0,
         view: 0,
         commit: None,
-        prepared: Few { items: [Certificate::BLANK; 8], len: 0 },
+        prepared: Few {
+            items: [Certificate::BLANK; 8],
+            len: 0,
+        },
         seal: 0,
     };
 }

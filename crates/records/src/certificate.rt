@@ -10,7 +10,10 @@ pub struct Certificate {
 
 impl Certificate {
     // what fills a place that holds no certificate
-    pub const BLANK: Certificate = Certificate { proposal: Proposal::BLANK, seals: [None; 10] };
+    pub const BLANK: Certificate = Certificate {
+        proposal: Proposal::BLANK,
+        seals: [None; 10],
+    };
 }
 
 pub mod sizes;

@@ -23,6 +23,11 @@ impl Proposal {
     pub const BLANK: Proposal = Proposal {
         view: 0,
         round: 0,
-        request: Request { client: 0, sequence: 0, payload: Payload { bytes: [0; 16] }, seal: 0 },
+        request: Request {
+            client: 0,
+            sequence: 0,
+            payload: Payload { bytes: [0; 16] },
+            seal: 0,
+        },
     };
 }

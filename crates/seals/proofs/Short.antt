@@ -155,7 +155,7 @@ module _ (g : ℕ → List ℕ → ℕ → Bool) (bs : List ℕ) (bytes : Bytes 
       same a right =
           let place : length bs ≡ length (arrival-bytes a) = ap length (sym (right .1)) in
           let tries : all-tried (in-reach g) n (length bs - 8) a ≡ first-false g (seals-of n a) =
-            ap (λ k. all-tried (in-reach g) n (k - 8) a) place ∙ reach-same g (seals-of n a) (own-short n some few a (right .0), inner-short n few a (right .0)) in
+          ap (λ k. all-tried (in-reach g) n (k - 8) a) place ∙ reach-same g (seals-of n a) (own-short n some few a (right .0), inner-short n few a (right .0)) in
           ap (λ r. sender-of n own a then (λ _. chain-of n a then (λ _. r then (λ _. Ok a)))) tries
 
   pub submitted-same : submitted (in-reach g) bs ≡ submitted g bs

@@ -25,8 +25,11 @@ use seal_box::SealBox;
 
 // where the sender stands in a record, and the seals of a submitted request, of a proposal's request and of an inform
 const SENDER_AT: usize = 2;
+
 const REQUEST_SEAL_AT: usize = 24;
+
 const PROPOSED_SEAL_AT: usize = 33;
+
 const INFORM_SEAL_AT: usize = 49;
 
 fn sender(arrival: &Arrival) -> u8
@@ -74,9 +77,20 @@ fn try_inner<B: SealBox>(seals: &B, ring: Ring, arrival: &Arrival) -> Result<(),
     match arrival {
         Arrival::Propose(propose) => {
             let request = propose.proposal.request;
-            try_seal(seals, request.client, &Record::Request(request), request.seal, PROPOSED_SEAL_AT)
+            try_seal(
+                seals,
+                request.client,
+                &Record::Request(request),
+                request.seal,
+                PROPOSED_SEAL_AT,
+            )
         }
-        Arrival::CheckCommit(check) => try_certificate(seals, Support::Prepared, 3, &check.prepared),
+        Arrival::CheckCommit(check) => try_certificate(
+            seals,
+            Support::Prepared,
+            3,
+            &check.prepared,
+        ),
         Arrival::ViewState(state) => {
             try_state(seals, ring, 0, state)?;
             Ok(())
@@ -92,7 +106,13 @@ fn try_all<B: SealBox>(seals: &B, ring: Ring, arrival: &Arrival, size: usize) ->
     ensures { λ r. ⌜ r ≡ all-tried (in-reach (B·SealBox .genuine (now (seals .entry)))) (stations-of ring) (size - 8) (now (arrival .entry)) ⌝ }
 {
     let signer = u16::from(sender(arrival));
-    try_seal(seals, signer, &Record::Arrival(*arrival), arrival.seal(), size.saturating_sub(8))?;
+    try_seal(
+        seals,
+        signer,
+        &Record::Arrival(*arrival),
+        arrival.seal(),
+        size.saturating_sub(8),
+    )?;
     try_inner(seals, ring, arrival)
 }
 
@@ -110,7 +130,13 @@ fn admit_asked<B: SealBox>(seals: &B, bytes: &[u8]) -> Result<Request, Fault>
     ensures { λ r. ⌜ r ≡ submitted (in-reach (B·SealBox .genuine (now (seals .entry)))) (now (bytes .entry)) ⌝ }
 {
     let request = read_request(bytes)?;
-    try_seal(seals, request.client, &Record::Request(request), request.seal, REQUEST_SEAL_AT)?;
+    try_seal(
+        seals,
+        request.client,
+        &Record::Request(request),
+        request.seal,
+        REQUEST_SEAL_AT,
+    )?;
     Ok(request)
 }
 
@@ -121,7 +147,13 @@ fn admit_told<B: SealBox>(seals: &B, ring: Ring, bytes: &[u8]) -> Result<Inform,
     if inform.sender >= ring.stations() {
         return Err(Fault::WrongSender(SENDER_AT));
     }
-    try_seal(seals, u16::from(inform.sender), &Record::Inform(inform), inform.seal, INFORM_SEAL_AT)?;
+    try_seal(
+        seals,
+        u16::from(inform.sender),
+        &Record::Inform(inform),
+        inform.seal,
+        INFORM_SEAL_AT,
+    )?;
     Ok(inform)
 }
 

@@ -41,8 +41,16 @@ fn try_slot<B: SealBox>(
     };
     let sender = station as u8;
     let message = match support {
-        Support::Prepared => Arrival::Prepare(Prepare { sender, proposal: certificate.proposal, seal: tag }),
-        Support::Committed => Arrival::CheckCommit(CheckCommit { sender, prepared: *certificate, seal: tag }),
+        Support::Prepared => Arrival::Prepare(Prepare {
+            sender,
+            proposal: certificate.proposal,
+            seal: tag,
+        }),
+        Support::Committed => Arrival::CheckCommit(CheckCommit {
+            sender,
+            prepared: *certificate,
+            seal: tag,
+        }),
     };
     try_seal(seals, station as u16, &Record::Arrival(message), tag, place)?;
     Ok(place + 8)

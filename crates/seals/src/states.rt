@@ -17,7 +17,12 @@ use records::arrivals::ViewState;
 use seal_box::SealBox;
 
 // The certificates' seals of a view state; the place of its own seal, which is not tried here.
-pub(crate) fn try_state<B: SealBox>(seals: &B, ring: Ring, at: usize, state: &ViewState) -> Result<usize, Fault>
+pub(crate) fn try_state<B: SealBox>(
+    seals: &B,
+    ring: Ring,
+    at: usize,
+    state: &ViewState,
+) -> Result<usize, Fault>
     requires { ⌜ at ≤ 6800 ⌝ }
     ensures value { λ r. ⌜ r ≡ state-tried (in-reach (B·SealBox .genuine (now (seals .entry)))) (stations-of ring) at (now (state .entry)) ⌝ }
     ensures bound { λ r. ⌜ made r (λ end. end ≤ at + 873) ⌝ }
@@ -27,7 +32,12 @@ pub(crate) fn try_state<B: SealBox>(seals: &B, ring: Ring, at: usize, state: &Vi
 }
 
 // A view state inside a new view: its certificates' seals, then its own; the place after it.
-fn try_member<B: SealBox>(seals: &B, ring: Ring, at: usize, state: &ViewState) -> Result<usize, Fault>
+fn try_member<B: SealBox>(
+    seals: &B,
+    ring: Ring,
+    at: usize,
+    state: &ViewState,
+) -> Result<usize, Fault>
     requires { ⌜ at ≤ 6800 ⌝ }
     ensures value { λ r. ⌜ r ≡ member-tried (in-reach (B·SealBox .genuine (now (seals .entry)))) (stations-of ring) at (now (state .entry)) ⌝ }
     ensures bound { λ r. ⌜ made r (λ end. end ≤ at + 881) ⌝ }
@@ -39,7 +49,12 @@ fn try_member<B: SealBox>(seals: &B, ring: Ring, at: usize, state: &ViewState) -
 }
 
 // The seals of the view states of a new view.
-pub(crate) fn try_states<B: SealBox>(seals: &B, ring: Ring, at: usize, states: &[ViewState]) -> Result<(), Fault>
+pub(crate) fn try_states<B: SealBox>(
+    seals: &B,
+    ring: Ring,
+    at: usize,
+    states: &[ViewState],
+) -> Result<(), Fault>
     requires { ⌜ at ≤ 8 ⌝ ∗ ⌜ length (now states) ≤ 7 ⌝ }
     ensures { λ r. ⌜ r ≡ states-tried (in-reach (B·SealBox .genuine (now (seals .entry)))) (stations-of ring) at (now (states .entry)) ⌝ }
 {

@@ -16,7 +16,9 @@ impl Ring {
         if stations < 1 || stations > MOST_STATIONS {
             return Err(Fault::WrongSender(0));
         }
-        Ok(Ring { stations: stations as u8 })
+        Ok(Ring {
+            stations: stations as u8,
+        })
     }
 
     // f: how many stations may be faulty

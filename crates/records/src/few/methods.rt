@@ -10,7 +10,10 @@ impl<T: Copy, const N: usize> Few<T, N> {
     pub fn new(blank: T) -> Few<T, N>
         ensures { λ r. ⌜ r ≡ bare blank N ⌝ }
     {
-        Few { items: [blank; N], len: 0 }
+        Few {
+            items: [blank; N],
+            len: 0,
+        }
     }
 
     // One value more; a full list stays as it is.
@@ -29,6 +32,10 @@ impl<T: Copy, const N: usize> Few<T, N> {
         ensures bound { λ r. ⌜ length (now r) ≤ N ⌝ }
     {
         let all = &self.items[..];
-        if self.len < all.len() { &all[0..self.len] } else { all }
+        if self.len < all.len() {
+            &all[0..self.len]
+        } else {
+            all
+        }
     }
 }

@@ -11,9 +11,9 @@ use Rattle.std.proofs.shelf.Ways.{tells}
 use Rattle.outbox.proofs.puts.put_bytes.Needs as need
 
 pub returns : need.returns
-returns c = record
-  { answered = grind (arith, tells)
-  ; long = search (needs, places)
-  ; below = search (needs, overwrites)
-  ; added = λ h. search (needs, overwrites)
-  }
+returns c = record {
+  answered = grind (arith, tells);
+  long = search (needs, places);
+  below = search (needs, overwrites);
+  added = λ h. search (needs, overwrites);
+}

@@ -11,9 +11,10 @@ returns-in-Break-seal c =
     search needs
 
 pub loop-i-again : need.loop-i-again
-loop-i-again c =
-    ( gathered-more (c .loop-i .inv .0) (c .loop-i-test .taken) (sym (c .slot-at .ensures .value) ∙ c .in-Continue-seal .was tt)
-    , omega (arith, c .in-Continue-seal .ensures tt .bound))
+loop-i-again c = (
+  gathered-more (c .loop-i .inv .0) (c .loop-i-test .taken) (sym (c .slot-at .ensures .value) ∙ c .in-Continue-seal .was tt),
+  omega (arith, c .in-Continue-seal .ensures tt .bound),
+)
 
 pub returns : need.returns
 returns c = let e : c .loop-i .i ≡ 10 = omega arith in rw (gathered-all (c .loop-i .inv .0) e)

@@ -7,4 +7,4 @@ use Rattle.seals.proofs.admitting.admit_request.Needs as need
 pub returns : need.returns
 returns g c =
     c .admit-asked .ensures
-    ∙ submitted-same (g .B·SealBox .genuine (c .args .seals .now)) (c .args .bytes .now) (all-bytes (c .args .bytes .now) (c .typed .bytes)) 
+    ∙ submitted-same (g .B·SealBox .genuine (c .args .seals .now)) (c .args .bytes .now) (all-bytes (c .args .bytes .now) (c .typed .bytes))

@@ -13,10 +13,11 @@ returns-in-Break-place g c =
     search needs
 
 pub loop-station-again : need.loop-station-again
-loop-station-again g c =
-    ( sym (slot-more (in-reach (g .B·SealBox .genuine (c .args .seals .now))) (says (c .args .support)) (c .args .certificate .now .proposal) (c .loop-station .station) (c .loop-station .place) (c .in-Continue-place .place) (c .args .certificate .now .seals) _ (c .loop-station-test .taken) (sym (c .try-slot .ensures .value) ∙ c .in-Continue-place .was tt))
-      ∙ c .loop-station .inv .0
-    , omega (arith, c .in-Continue-place .ensures tt .bound))
+loop-station-again g c = (
+  sym (slot-more (in-reach (g .B·SealBox .genuine (c .args .seals .now))) (says (c .args .support)) (c .args .certificate .now .proposal) (c .loop-station .station) (c .loop-station .place) (c .in-Continue-place .place) (c .args .certificate .now .seals) _ (c .loop-station-test .taken) (sym (c .try-slot .ensures .value) ∙ c .in-Continue-place .was tt))
+      ∙ c .loop-station .inv .0,
+  omega (arith, c .in-Continue-place .ensures tt .bound),
+)
 
 pub returns : need.returns
 returns g c = sym (slot-all (in-reach (g .B·SealBox .genuine (c .args .seals .now))) (says (c .args .support)) (c .args .certificate .now .proposal) (c .loop-station .station) (c .loop-station .place) (c .args .certificate .now .seals) (c .loop-station-test .left)) ∙ c .loop-station .inv .0

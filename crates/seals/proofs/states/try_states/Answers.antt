@@ -14,10 +14,11 @@ returns-in-Break-place g c =
     search needs
 
 pub loop-state-again : need.loop-state-again
-loop-state-again g c =
-    ( sym (member-more (in-reach (g .B·SealBox .genuine (c .args .seals .now))) (stations-of (c .args .ring)) (c .loop-state .place) (c .args .states .now) (c .loop-state .state-index) _ (c .loop-state-test .taken) (sym (c .try-member .ensures .value) ∙ c .in-Continue-place .was tt))
-      ∙ c .loop-state .inv .0
-    , omega (arith, c .in-Continue-place .ensures tt .bound))
+loop-state-again g c = (
+  sym (member-more (in-reach (g .B·SealBox .genuine (c .args .seals .now))) (stations-of (c .args .ring)) (c .loop-state .place) (c .args .states .now) (c .loop-state .state-index) _ (c .loop-state-test .taken) (sym (c .try-member .ensures .value) ∙ c .in-Continue-place .was tt))
+      ∙ c .loop-state .inv .0,
+  omega (arith, c .in-Continue-place .ensures tt .bound),
+)
 
 pub returns : need.returns
 returns g c =
