@@ -1,0 +1,3 @@
+pub mod Sameness
+mod Rows
+pub mod Executions

@@ -1,0 +1,3 @@
+pub mod Alike
+pub mod Agreed
+pub mod Proofs-of-execution
