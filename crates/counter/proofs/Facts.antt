@@ -166,9 +166,9 @@ pub posted : (r : Request) (before after : List ℕ) (used used′ : ℕ) (answe
 posted r before after used used′ answer e b s =
     let l = request-long r e in
     let end : used + length (record-bytes (rec.Request r)) ≡ used + 32 = omega arith in
-    let fits : used + length (record-bytes (rec.Request r)) ≤ length before = omega arith in
-    ( s .filled ∙ cond-true (leb (used + length (record-bytes (rec.Request r))) (length before)) (used + length (record-bytes (rec.Request r))) used (le-leb (used + length (record-bytes (rec.Request r))) (length before) fits) ∙ end
-    , subst (λ k. take k after ≡ take used before ++ record-bytes (rec.Request r)) end (s .added fits)
+    let fits : used + length (record-bytes (rec.Request r)) ≤ length before = omega arith in (
+      s .filled ∙ cond-true (leb (used + length (record-bytes (rec.Request r))) (length before)) (used + length (record-bytes (rec.Request r))) used (le-leb (used + length (record-bytes (rec.Request r))) (length before) fits) ∙ end,
+      subst (λ k. take k after ≡ take used before ++ record-bytes (rec.Request r)) end (s .added fits),
     )
 
 pub asked-in-room : (used size : ℕ) (tag : List ℕ → ℕ) (core : Core) (bytes : List ℕ) (r : Request) → used + 32 ≤ size → Ok r ≡ asks true tag core bytes → Ok r ≡ asks (leb (used + 32) size) tag core bytes

@@ -46,10 +46,10 @@ unheard r = record { request = r; heard = replicate 10 None }
 -- the ticket and the counter after; a refusal uses up no sequence
 abbrev pub opened : Core → Result Request Fault → Result Ticket Fault × Core
 opened core (Err f) = (Err f, core)
-opened core (Ok r) =
-    ( Ok (record { client = r .client; sequence = r .sequence })
-    , record { client = core .client; next = core .next + 1; current = Some (unheard r) }
-    )
+opened core (Ok r) = (
+  Ok (record { client = r .client; sequence = r .sequence }),
+  record { client = core .client; next = core .next + 1; current = Some (unheard r) },
+)
 
 -- the tray after: the request behind what was sent before, or nothing new
 abbrev pub Posted : List ℕ → List ℕ → ℕ → ℕ → Result Request Fault → Type 0

@@ -33,12 +33,16 @@ use records::request::Request;
 use seal_box::SealBox;
 
 const FIRST_CLIENT: u16 = 1000;
+
 const LAST_SEQUENCE: u64 = 4_294_967_295;
 
 // the places of an inform's sender, view and seal, and the size of a seal
 const SENDER_PLACE: usize = 2;
+
 const VIEW_PLACE: usize = 3;
+
 const SEAL_PLACE: usize = 49;
+
 const SEAL_SIZE: usize = 8;
 
 impl Counter {
@@ -54,7 +58,11 @@ impl Counter {
         if first == 0 {
             return Err(Fault::OutOfRange(0));
         }
-        let core = Core { client, next: u64::from(first), current: None };
+        let core = Core {
+            client,
+            next: u64::from(first),
+            current: None,
+        };
         Ok(Counter { ring, core })
     }
 
@@ -90,9 +98,19 @@ impl Counter {
         }
         let request = self.asking(seals, &payload.bytes)?;
         write(&Record::Request(request), memory, fill)?;
-        let current = Some(Asked { request, heard: [None; 10] });
-        self.core = Core { client: self.core.client, next: self.core.next + 1, current };
-        Ok(Ticket { client: request.client, sequence: request.sequence })
+        let current = Some(Asked {
+            request,
+            heard: [None; 10],
+        });
+        self.core = Core {
+            client: self.core.client,
+            next: self.core.next + 1,
+            current,
+        };
+        Ok(Ticket {
+            client: request.client,
+            sequence: request.sequence,
+        })
     }
 
     // The inform that the bytes hold, where it is genuine and about the open request.
@@ -153,7 +171,10 @@ impl Counter {
         let Some(release) = agreed(self.ring, &asked.heard) else {
             return Err((Fault::TooEarly, ticket));
         };
-        let Ticket { client: _, sequence: _ } = ticket;
+        let Ticket {
+            client: _,
+            sequence: _,
+        } = ticket;
         self.core.current = None;
         Ok(release)
     }
@@ -166,7 +187,10 @@ impl Counter {
         let Some(_) = self.served(&ticket) else {
             return Err((Fault::NotNow(0), ticket));
         };
-        let Ticket { client: _, sequence: _ } = ticket;
+        let Ticket {
+            client: _,
+            sequence: _,
+        } = ticket;
         self.core.current = None;
         Ok(())
     }

@@ -14,14 +14,25 @@ use seal_box::SealBox;
 
 // a request as a record, and the part of it that its seal covers
 pub(crate) const REQUEST_SIZE: usize = 32;
+
 const COVERED_SIZE: usize = 24;
 
 // The request is laid out as it will be sent, and the box seals the part before the seal.
-pub(crate) fn sealed<B: SealBox>(seals: &B, client: u16, sequence: u32, bytes: &[u8; 16]) -> Result<Request, Fault>
+pub(crate) fn sealed<B: SealBox>(
+    seals: &B,
+    client: u16,
+    sequence: u32,
+    bytes: &[u8; 16],
+) -> Result<Request, Fault>
     ensures value { λ r. ⌜ r ≡ Ok (sealed-by (tag (now (seals .entry))) (unsealed client sequence (now (bytes .entry)))) ⌝ }
     ensures long { λ r. ⌜ made r (λ q. length (q .payload .bytes) ≡ 16) ⌝ }
 {
-    let request = Request { client, sequence, payload: Payload { bytes: *bytes }, seal: 0 };
+    let request = Request {
+        client,
+        sequence,
+        payload: Payload { bytes: *bytes },
+        seal: 0,
+    };
     let mut paper = [0; REQUEST_SIZE];
     let mut fill = Fill { used: 0 };
     write(&Record::Request(request), &mut paper, &mut fill)?;

@@ -74,12 +74,12 @@ proof-of genuine n request h release p s e = go (first-backed (quorum-of n) h h)
     go None r q = absurd (grind arith)
     go (Some w) r q =
         let is : said-by w ≡ release = grind arith in
-        record
-        { informs = supporters h w
-        ; enough = backed (quorum-of n) h h w r
-        ; different = rising n 0 w h p
-        ; sealed = sealed genuine request w h s
-        ; agree = subst (λ x. Every (Tells request x) (supporters h w)) is (tells-of genuine request w h s)
+        record {
+          informs = supporters h w;
+          enough = backed (quorum-of n) h h w r;
+          different = rising n 0 w h p;
+          sealed = sealed genuine request w h s;
+          agree = subst (λ x. Every (Tells request x) (supporters h w)) is (tells-of genuine request w h s);
         }
 
 -- an inform in its place keeps a row placed, and a genuine one about the request keeps it sound

@@ -85,9 +85,9 @@ meet w v (None ∷ h) = meet w v h
 meet w v (Some i ∷ h) =
     ⊎-elim (λ (c : Common w v). inl c)
     (λ (few : backers h w + backers h v ≤ length (told h)).
-      ⊎-elim (λ (b : (alike i w ≡ true) × (alike i v ≡ true)). inl (i, b))
-      (λ (l : length (cond (alike i w) (i ∷ supporters h w) (supporters h w)) + length (cond (alike i v) (i ∷ supporters h v) (supporters h v)) ≤ suc (length (told h))). inr l)
-      (both (alike i w) (alike i v) i (supporters h w) (supporters h v) (length (told h)) few))
+    ⊎-elim (λ (b : (alike i w ≡ true) × (alike i v ≡ true)). inl (i, b))
+    (λ (l : length (cond (alike i w) (i ∷ supporters h w) (supporters h w)) + length (cond (alike i v) (i ∷ supporters h v) (supporters h v)) ≤ suc (length (told h))). inr l)
+    (both (alike i w) (alike i v) i (supporters h w) (supporters h v) (length (told h)) few))
     (meet w v h)
 
 abbrev make : ℕ → ℕ → ℕ → Release
@@ -109,9 +109,9 @@ pub one-say : (n : ℕ) (h : List (Option Inform)) (w v : Inform) → 1 ≤ n �
 one-say n h w v some p a b =
     ⊎-elim (λ (c : Common w v). same-said w v (alike-on w (c .0) v (alike-back (c .0) w (c .1 .0)) (c .1 .1)))
     (λ (few : backers h w + backers h v ≤ length (told h)).
-      let t = told-few n 0 h p in
-      let q = more-than-half n some in
-      absurd (omega arith))
+    let t = told-few n 0 h p in
+    let q = more-than-half n some in
+    absurd (omega arith))
     (meet w v h)
 
 -- where the word that the tally names stands
@@ -125,7 +125,7 @@ pub record Named (n m k s : ℕ) (all h : List (Option Inform)) : Type 0 where
 
 one-on : (n m k s : ℕ) (all h : List (Option Inform)) (o : Option Inform) → Named n m (suc k) s all h → Named n m k s all (o ∷ h)
 one-on n m k s all h o c = record
-  { place = suc (c .place); word = c .word; stands = c .stands; is = let i = c .is in omega arith; low = c .low; backed = c .backed }
+    { place = suc (c .place); word = c .word; stands = c .stands; is = let i = c .is in omega arith; low = c .low; backed = c .backed }
 
 pub named : (n m k s : ℕ) (all h : List (Option Inform)) → placed n all ≡ true → placed-from n k h ≡ true → Among (Carried signed agrees (told all) m s) (told h) → Named n m k s all h
 named n m k s all [] a p c = absurd c
@@ -134,13 +134,15 @@ named n m k s all (Some i ∷ h) a p c =
     let f = first-of n k i h p in
     ⊎-elim
     (λ (here : Carried signed agrees (told all) m s (told-by i)).
-      let e = shared-is n 0 (told-by i) all a in
-      record
-      { place = 0; word = i; stands = refl
-      ; is = let x = here .0 in let y = f .0 in omega arith
-      ; low = let x = here .0 in let y = f .0 in let z = f .1 .0 in omega arith
-      ; backed = let x = here .1 in omega arith
-      })
+    let e = shared-is n 0 (told-by i) all a in
+    record {
+      place = 0;
+      word = i;
+      stands = refl;
+      is = let x = here .0 in let y = f .0 in omega arith;
+      low = let x = here .0 in let y = f .0 in let z = f .1 .0 in omega arith;
+      backed = let x = here .1 in omega arith;
+    })
     (λ (there : Among (Carried signed agrees (told all) m s) (told h)). one-on n m k s all h (Some i) (named n m (suc k) s all h a (f .1 .1) there))
     c
 
@@ -182,12 +184,12 @@ module _ (n : ℕ) (h : List (Option Inform)) (some : 1 ≤ n) (p : placed n h �
   agreed-some s t =
       let c = named n (quorum-of n) 0 s h h p p (t .1) in
       let f = first-there (quorum-of n) h h (c .place) (c .word) (c .stands) (c .backed) in
-      let e : s ≡ c .place = let i = c .is in omega arith in
-      ( c .low
-      , ap (λ k. released (getD h k None)) e
-        ∙ ap released (c .stands)
-        ∙ ap Some (one-say n h (c .word) (f .word) some p (c .backed) (f .backed))
-        ∙ sym (ap released (f .stands))
+      let e : s ≡ c .place = let i = c .is in omega arith in (
+        c .low,
+        ap (λ k. released (getD h k None)) e
+            ∙ ap released (c .stands)
+            ∙ ap Some (one-say n h (c .word) (f .word) some p (c .backed) (f .backed))
+            ∙ sym (ap released (f .stands)),
       )
 
 -- the most that are alike, where the tally names none for m, and where it names a station

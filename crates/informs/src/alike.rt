@@ -9,7 +9,10 @@ use tally::Word;
 pub fn same_request(a: &Request, b: &Request) -> bool
     ensures { λ r. ⌜ r ≡ same-request (now (a .entry)) (now (b .entry)) ⌝ }
 {
-    a.client == b.client && a.sequence == b.sequence && a.seal == b.seal && a.payload.bytes == b.payload.bytes
+    a.client == b.client
+        && a.sequence == b.sequence
+        && a.seal == b.seal
+        && a.payload.bytes == b.payload.bytes
 }
 
 // An inform as its station's word.

@@ -12,13 +12,13 @@ loop-i-again g c =
     let e = shared-at (g .W·Word .signer) (g .W·Word .same) (c .args .word .now) (c .args .words .now) (c .loop-i .i) (c .index-words-i .result) (c .loop-i-test .taken) (c .index-words-i .is) in
     let r = says-rest (g .W·Word .signer) (g .W·Word .same) (c .args .word .now) (c .args .words .now) (c .loop-i .i + 1) (g .W·Word .signer (c .index-words-i .result)) in
     let inv = c .loop-i .inv .0 in
-    elim (c .if-same .came)
-    [ then-same·then-not-says w ↦ (grind (arith, tells), omega (arith, w .signers-is))
-    | else-same w ↦
-      elim (w .else-same .came)
-      [ else-same·by·then-same·else-not-says w′ ↦ (grind (arith, tells), omega (arith, w .signers-is))
-      | else-same·by·else-same w′ ↦ (grind (arith, tells), omega (arith, w .signers-is))
-      ]
+    elim (c .if-same .came) [
+      | then-same·then-not-says w ↦ (grind (arith, tells), omega (arith, w .signers-is))
+      | else-same w ↦
+          elim (w .else-same .came) [
+            | else-same·by·then-same·else-not-says w′ ↦ (grind (arith, tells), omega (arith, w .signers-is))
+            | else-same·by·else-same w′ ↦ (grind (arith, tells), omega (arith, w .signers-is))
+          ]
     ]
 
 pub returns : need.returns

@@ -9,11 +9,11 @@ pub returns-then-m-eq0 : need.returns-then-m-eq0
 returns-then-m-eq0 g c = λ some. absurd (omega arith)
 
 pub returns-then-count-m : need.returns-then-count-m
-returns-then-count-m g c =
-    ( omega arith
-    , among-read (Carried (g .W·Word .signer) (g .W·Word .same) (c .args .words .now) (c .args .m) (c .signer .result)) (c .args .words .now) (c .loop-word .word-index) (c .word-item .result) (c .loop-word-test .taken) (c .word-item .is)
-      (sym (c .signer .ensures), omega (arith, c .count .ensures))
-    )
+returns-then-count-m g c = (
+  omega arith,
+  among-read (Carried (g .W·Word .signer) (g .W·Word .same) (c .args .words .now) (c .args .m) (c .signer .result)) (c .args .words .now) (c .loop-word .word-index) (c .word-item .result) (c .loop-word-test .taken) (c .word-item .is)
+      (sym (c .signer .ensures), omega (arith, c .count .ensures)),
+)
 
 pub loop-word-again : need.loop-word-again
 loop-word-again g c =

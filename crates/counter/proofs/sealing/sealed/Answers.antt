@@ -20,7 +20,7 @@ pub returns : need.returns
 returns g c =
     let r = unsealed (c .args .client) (c .args .sequence) (c .args .bytes .now) in
     let part = laid r _ _ _ _ (c .told-bytes) refl (c .in-Continue-write .ensures tt .sent) in
-    record
-    { value = ap (λ s. Ok (record { client = c .args .client; sequence = c .args .sequence; payload = record { bytes = c .args .bytes .now }; seal = s })) (c .seal-seal .ensures ∙ ap (g .B·SealBox .tag (c .args .seals .now)) part)
-    ; long = c .told-bytes
+    record {
+      value = ap (λ s. Ok (record { client = c .args .client; sequence = c .args .sequence; payload = record { bytes = c .args .bytes .now }; seal = s })) (c .seal-seal .ensures ∙ ap (g .B·SealBox .tag (c .args .seals .now)) part);
+      long = c .told-bytes;
     }

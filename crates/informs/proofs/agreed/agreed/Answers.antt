@@ -19,7 +19,7 @@ returns-in-None c =
 pub index-heard-from : need.index-heard-from
 index-heard-from c =
     let a = agreed-some (stations-of (c .args .ring)) (c .args .heard .now) (c .args .ring .some) (c .pre) (c .in-Some .station)
-      (of-row (c .args .heard .now) (c .as-slice .result .now) (c .gathered-informs .result) blank-told (c .from .result) (quorum-of (stations-of (c .args .ring))) (Some (c .in-Some .station)) (c .gathered-informs .ensures) (c .as-slice .ensures .value) (c .from .ensures ∙ c .quorum .ensures) (c .in-Some .ensures tt)) in
+    (of-row (c .args .heard .now) (c .as-slice .result .now) (c .gathered-informs .result) blank-told (c .from .result) (quorum-of (stations-of (c .args .ring))) (Some (c .in-Some .station)) (c .gathered-informs .ensures) (c .as-slice .ensures .value) (c .from .ensures ∙ c .quorum .ensures) (c .in-Some .ensures tt)) in
     let low : c .in-Some .station < stations-of (c .args .ring) = a .0 in
     let few = c .args .ring .few in
     omega arith
@@ -27,5 +27,5 @@ index-heard-from c =
 pub returns-in-Some : need.returns-in-Some
 returns-in-Some c =
     let a = agreed-some (stations-of (c .args .ring)) (c .args .heard .now) (c .args .ring .some) (c .pre) (c .in-Some .station)
-      (of-row (c .args .heard .now) (c .as-slice .result .now) (c .gathered-informs .result) blank-told (c .from .result) (quorum-of (stations-of (c .args .ring))) (Some (c .in-Some .station)) (c .gathered-informs .ensures) (c .as-slice .ensures .value) (c .from .ensures ∙ c .quorum .ensures) (c .in-Some .ensures tt)) in
+    (of-row (c .args .heard .now) (c .as-slice .result .now) (c .gathered-informs .result) blank-told (c .from .result) (quorum-of (stations-of (c .args .ring))) (Some (c .in-Some .station)) (c .gathered-informs .ensures) (c .as-slice .ensures .value) (c .from .ensures ∙ c .quorum .ensures) (c .in-Some .ensures tt)) in
     c .said .ensures ∙ ap (λ k. released (getD (c .args .heard .now) k None)) (c .from-in-Some .ensures) ∙ a .1

@@ -14,14 +14,14 @@ loop-place-again c =
     let h = c .args .heard .now in
     let i = c .loop-place .place-index in
     let l = c .loop-place-test .taken in
-    elim (c .match-place .came)
-    [ in-Some w ↦
-      w .words-is
-      ∙ w .push .ensures
-      ∙ ap (λ few. pushed 10 few (told-by (w .in-Some .inform))) (c .loop-place .inv)
-      ∙ pushed-on blank-told (told (take i h)) (told-by (w .in-Some .inform)) (told-room h i None l (c .pre))
-      ∙ ap (λ ts. filled blank-told 10 ts) (sym (told-some h i None l (w .in-Some .inform) (w .in-Some .is)))
-    | in-rest w ↦ w .words-is ∙ c .loop-place .inv ∙ ap (λ ts. filled blank-told 10 ts) (sym (told-none h i None l (w .in-rest .is)))
+    elim (c .match-place .came) [
+      | in-Some w ↦
+          w .words-is
+          ∙ w .push .ensures
+          ∙ ap (λ few. pushed 10 few (told-by (w .in-Some .inform))) (c .loop-place .inv)
+          ∙ pushed-on blank-told (told (take i h)) (told-by (w .in-Some .inform)) (told-room h i None l (c .pre))
+          ∙ ap (λ ts. filled blank-told 10 ts) (sym (told-some h i None l (w .in-Some .inform) (w .in-Some .is)))
+      | in-rest w ↦ w .words-is ∙ c .loop-place .inv ∙ ap (λ ts. filled blank-told 10 ts) (sym (told-none h i None l (w .in-rest .is)))
     ]
 
 pub returns : need.returns

@@ -16,9 +16,9 @@ returns-then-not-ask g c =
     let low : i .sender < stations-of (c .args .self .now .ring) = omega (arith, c .stations .ensures) in
     let part = covered-part i (c .args .bytes .now) (c .in-Continue-inform .ensures tt .back .1) in
     let asked : g .B·SealBox .genuine (c .args .seals .now) (i .sender) (covered (rec.Inform i)) (i .seal) ≡ c .ask .result =
-      ap (λ s. g .B·SealBox .genuine (c .args .seals .now) s (covered (rec.Inform i)) (i .seal)) (sym (c .from .ensures))
-      ∙ ap (λ s. g .B·SealBox .genuine (c .args .seals .now) (c .from .result) s (i .seal)) (sym part)
-      ∙ sym (c .ask .ensures) in
+    ap (λ s. g .B·SealBox .genuine (c .args .seals .now) s (covered (rec.Inform i)) (i .seal)) (sym (c .from .ensures))
+    ∙ ap (λ s. g .B·SealBox .genuine (c .args .seals .now) (c .from .result) s (i .seal)) (sym part)
+    ∙ sym (c .ask .ensures) in
     sym (taken-is (g .B·SealBox .genuine (c .args .seals .now)) (stations-of (c .args .self .now .ring)) (c .args .self .now .core .current) (c .args .bytes .now) (c .in-Continue-inform .inform) false (about (c .args .self .now .core .current) (c .in-Continue-inform .inform)) (c .in-Continue-inform .ensures tt .value) low (asked ∙ c .if-not-ask .taken) refl)
 
 pub returns : need.returns
@@ -27,9 +27,9 @@ returns g c =
     let low : i .sender < stations-of (c .args .self .now .ring) = omega (arith, c .stations .ensures) in
     let part = covered-part i (c .args .bytes .now) (c .in-Continue-inform .ensures tt .back .1) in
     let asked : g .B·SealBox .genuine (c .args .seals .now) (i .sender) (covered (rec.Inform i)) (i .seal) ≡ c .ask .result =
-      ap (λ s. g .B·SealBox .genuine (c .args .seals .now) s (covered (rec.Inform i)) (i .seal)) (sym (c .from .ensures))
-      ∙ ap (λ s. g .B·SealBox .genuine (c .args .seals .now) (c .from .result) s (i .seal)) (sym part)
-      ∙ sym (c .ask .ensures) in
+    ap (λ s. g .B·SealBox .genuine (c .args .seals .now) s (covered (rec.Inform i)) (i .seal)) (sym (c .from .ensures))
+    ∙ ap (λ s. g .B·SealBox .genuine (c .args .seals .now) (c .from .result) s (i .seal)) (sym part)
+    ∙ sym (c .ask .ensures) in
     sym (taken-is (g .B·SealBox .genuine (c .args .seals .now)) (stations-of (c .args .self .now .ring)) (c .args .self .now .core .current) (c .args .bytes .now) (c .in-Continue-inform .inform) true true (c .in-Continue-inform .ensures tt .value) low (asked ∙ c .if-not-ask .left) (ap (λ o. about o (c .in-Continue-inform .inform)) (c .in-Some .is) ∙ sym (c .same-request .ensures) ∙ c .if-not-same-request .left))
 
 pub returns-then-not-same-request : need.returns-then-not-same-request
@@ -38,9 +38,9 @@ returns-then-not-same-request g c =
     let low : i .sender < stations-of (c .args .self .now .ring) = omega (arith, c .stations .ensures) in
     let part = covered-part i (c .args .bytes .now) (c .in-Continue-inform .ensures tt .back .1) in
     let asked : g .B·SealBox .genuine (c .args .seals .now) (i .sender) (covered (rec.Inform i)) (i .seal) ≡ c .ask .result =
-      ap (λ s. g .B·SealBox .genuine (c .args .seals .now) s (covered (rec.Inform i)) (i .seal)) (sym (c .from .ensures))
-      ∙ ap (λ s. g .B·SealBox .genuine (c .args .seals .now) (c .from .result) s (i .seal)) (sym part)
-      ∙ sym (c .ask .ensures) in
+    ap (λ s. g .B·SealBox .genuine (c .args .seals .now) s (covered (rec.Inform i)) (i .seal)) (sym (c .from .ensures))
+    ∙ ap (λ s. g .B·SealBox .genuine (c .args .seals .now) (c .from .result) s (i .seal)) (sym part)
+    ∙ sym (c .ask .ensures) in
     sym (taken-is (g .B·SealBox .genuine (c .args .seals .now)) (stations-of (c .args .self .now .ring)) (c .args .self .now .core .current) (c .args .bytes .now) (c .in-Continue-inform .inform) true false (c .in-Continue-inform .ensures tt .value) low (asked ∙ c .if-not-ask .left) (ap (λ o. about o (c .in-Continue-inform .inform)) (c .in-Some .is) ∙ sym (c .same-request .ensures) ∙ c .if-not-same-request .taken))
 
 pub returns-in-rest : need.returns-in-rest
@@ -49,7 +49,7 @@ returns-in-rest g c =
     let low : i .sender < stations-of (c .args .self .now .ring) = omega (arith, c .stations .ensures) in
     let part = covered-part i (c .args .bytes .now) (c .in-Continue-inform .ensures tt .back .1) in
     let asked : g .B·SealBox .genuine (c .args .seals .now) (i .sender) (covered (rec.Inform i)) (i .seal) ≡ c .ask .result =
-      ap (λ s. g .B·SealBox .genuine (c .args .seals .now) s (covered (rec.Inform i)) (i .seal)) (sym (c .from .ensures))
-      ∙ ap (λ s. g .B·SealBox .genuine (c .args .seals .now) (c .from .result) s (i .seal)) (sym part)
-      ∙ sym (c .ask .ensures) in
+    ap (λ s. g .B·SealBox .genuine (c .args .seals .now) s (covered (rec.Inform i)) (i .seal)) (sym (c .from .ensures))
+    ∙ ap (λ s. g .B·SealBox .genuine (c .args .seals .now) (c .from .result) s (i .seal)) (sym part)
+    ∙ sym (c .ask .ensures) in
     sym (taken-is (g .B·SealBox .genuine (c .args .seals .now)) (stations-of (c .args .self .now .ring)) (c .args .self .now .core .current) (c .args .bytes .now) (c .in-Continue-inform .inform) true false (c .in-Continue-inform .ensures tt .value) low (asked ∙ c .if-not-ask .left) (ap (λ o. about o (c .in-Continue-inform .inform)) (c .in-rest .is)))

@@ -11,8 +11,8 @@ pub ghost-self : need.ghost-self
 ghost-self g c = (tt, (still-placed (g .B·SealBox .genuine (c .args .seals .now)) (stations-of (c .args .self .now .ring)) (c .args .self .now .core .current) (c .in-Some .asked) (c .in-Continue-inform .inform) (c .from .result) (c .in-Some .is) (c .from .ensures) (passed (g .B·SealBox .genuine (c .args .seals .now)) (stations-of (c .args .self .now .ring)) (c .args .self .now .core .current) (c .args .bytes .now) (c .in-Continue-inform .inform) (c .in-Continue-inform .ensures tt)) (c .args .self .now .placed), tt))
 
 pub returns-in-Some : need.returns-in-Some
-returns-in-Some g c = record
-  { answer = heard-answer (c .args .self .now .core) (c .in-Some .asked) (c .in-Continue-inform .inform) _ (c .from .result) (c .in-Continue-inform .ensures tt) (c .in-Some .is) (c .from .ensures)
-  ; ring = refl
-  ; sound = still-sound (g .B·SealBox .genuine (c .args .seals .now)) (stations-of (c .args .self .now .ring)) (c .args .self .now .core .current) (c .in-Some .asked) (c .in-Continue-inform .inform) (c .from .result) (c .in-Some .is) (c .from .ensures) (passed (g .B·SealBox .genuine (c .args .seals .now)) (stations-of (c .args .self .now .ring)) (c .args .self .now .core .current) (c .args .bytes .now) (c .in-Continue-inform .inform) (c .in-Continue-inform .ensures tt))
-  }
+returns-in-Some g c = record {
+  answer = heard-answer (c .args .self .now .core) (c .in-Some .asked) (c .in-Continue-inform .inform) _ (c .from .result) (c .in-Continue-inform .ensures tt) (c .in-Some .is) (c .from .ensures);
+  ring = refl;
+  sound = still-sound (g .B·SealBox .genuine (c .args .seals .now)) (stations-of (c .args .self .now .ring)) (c .args .self .now .core .current) (c .in-Some .asked) (c .in-Continue-inform .inform) (c .from .result) (c .in-Some .is) (c .from .ensures) (passed (g .B·SealBox .genuine (c .args .seals .now)) (stations-of (c .args .self .now .ring)) (c .args .self .now .core .current) (c .args .bytes .now) (c .in-Continue-inform .inform) (c .in-Continue-inform .ensures tt));
+}

@@ -16,9 +16,9 @@ pub returns : need.returns
 returns g c =
     let room : c .args .fill .now .used + 32 ≤ length (c .args .memory .now) = omega arith in
     let e = asked-in-room (c .args .fill .now .used) (length (c .args .memory .now)) (g .B·SealBox .tag (c .args .seals .now)) (c .args .self .now .core) (c .args .payload .bytes) (c .in-Continue-request .request) room (c .in-Continue-request .ensures tt .value) in
-    record
-    { answer = ap (opened (c .args .self .now .core)) e
-    ; ring = refl
-    ; tray = subst (λ a. Posted (c .args .memory .now) (c .write .last .memory) (c .args .fill .now .used) (c .write .last .fill .used) a) e (posted (c .in-Continue-request .request) _ _ _ _ _ (c .in-Continue-request .ensures tt .long) room (c .in-Continue-write .ensures tt .sent))
-    ; sound = λ genuine s. tt
+    record {
+      answer = ap (opened (c .args .self .now .core)) e;
+      ring = refl;
+      tray = subst (λ a. Posted (c .args .memory .now) (c .write .last .memory) (c .args .fill .now .used) (c .write .last .fill .used) a) e (posted (c .in-Continue-request .request) _ _ _ _ _ (c .in-Continue-request .ensures tt .long) room (c .in-Continue-write .ensures tt .sent));
+      sound = λ genuine s. tt;
     }
