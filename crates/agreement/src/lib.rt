@@ -1,5 +1,6 @@
 // The safety of the protocol, as theory: what good replicas do is stated as relations (specs/), and each function below
 // promises one theorem over all runs of them. Nothing is computed here.
+#![tactic(auto)]
 
 ghost use Rattle.std.specs.Prelude.{ℕ};
 ghost use Rattle.agreement.specs.Promises.{ChosenFixed, LogsAgree, OneList, PreparedOnce};

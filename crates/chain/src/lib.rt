@@ -1,2 +1,4 @@
 // The chain rule of view states and new views.
+#![tactic(auto)]
+
 pub mod links;

@@ -1,4 +1,6 @@
 // The laws of the wire format, each group as the contract of a function that does nothing.
+#![tactic(auto)]
+
 ghost use Rattle.codec.specs.Laws.{FirstBack, RecordBack, ArrivalBack, RequestBack, InformBack};
 ghost use Rattle.codec.specs.Laws.{FirstReads, RecordReads, ArrivalReads, RequestReads, InformReads};
 ghost use Rattle.codec.specs.Laws.{SaysOne, RightSaid, CoveredFirst, CoveredLength};

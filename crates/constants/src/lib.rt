@@ -1,5 +1,6 @@
 //! Instrument constants: what a payload asks of a book of them, what the book answers, what an entry is, and what any
 //! such book means, however it keeps its entries.
+#![tactic(auto)]
 
 mod command;
 mod entries;

@@ -37,7 +37,7 @@ impl Service for ConstantsBook {
 
     ghost step = { stepped };
 
-    ghost result = { answer };
+    ghost answer = { answer };
 
     ghost undoes = { Undoes };
 

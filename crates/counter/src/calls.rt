@@ -38,7 +38,7 @@ const SEAL_SIZE: usize = 8;
 impl Counter {
     // A counter for a ring of so many stations and its box's client.
     pub fn new<B: SealBox>(stations: usize, seals: &B, first: u32) -> Result<Counter, Fault>
-        ensures { seen result ≡ made_of stations (own seals.now) first }
+        ensures { seen result ≡ made_of stations (B.own seals.now) first }
     {
         let ring = Ring::new(stations)?;
         let client = seals.own();
@@ -58,7 +58,7 @@ impl Counter {
 
     // The sealed request of an opening, where none is open and the sequences are not used up.
     fn asking<B: SealBox>(&self, seals: &B, bytes: &[u8; 16]) -> Result<Request, Fault>
-        ensures value { result ≡ asks true (tag seals.now) self.now.core bytes.now }
+        ensures value { result ≡ asks true (B.tag seals.now) self.now.core bytes.now }
         ensures long { IfOk result (λ q. length q.payload.bytes ≡ 16) }
     {
         if self.core.current.is_some() {
@@ -78,9 +78,9 @@ impl Counter {
         memory: &mut [u8],
         fill: &mut Fill,
     ) -> Result<Ticket, Fault>
-        ensures answer { (result, self.new.core) ≡ opened self.old.core (asks (nat_le (fill.old.used + 32) (length memory.old)) (tag seals.now) self.old.core payload.bytes) }
+        ensures answer { (result, self.new.core) ≡ opened self.old.core (asks (nat_le (fill.old.used + 32) (length memory.old)) (B.tag seals.now) self.old.core payload.bytes) }
         ensures ring { self.new.ring ≡ self.old.ring }
-        ensures tray { Posted memory.old memory.new fill.old.used fill.new.used (asks (nat_le (fill.old.used + 32) (length memory.old)) (tag seals.now) self.old.core payload.bytes) }
+        ensures tray { Posted memory.old memory.new fill.old.used fill.new.used (asks (nat_le (fill.old.used + 32) (length memory.old)) (B.tag seals.now) self.old.core payload.bytes) }
         ensures sound { (genuine : Seals) → SoundIn genuine self.old.core.current → SoundIn genuine self.new.core.current }
     {
         if memory.len() < fill.used || memory.len() - fill.used < REQUEST_SIZE {
@@ -105,7 +105,7 @@ impl Counter {
 
     // The inform that the bytes hold, where it is genuine and about the open request.
     fn accepted<B: SealBox>(&self, seals: &B, bytes: &[u8]) -> Result<Inform, Fault>
-        ensures { result ≡ taken (genuine seals.now) (stations_of self.now.ring) self.now.core.current bytes.now }
+        ensures { result ≡ taken (B.genuine seals.now) (stations_of self.now.ring) self.now.core.current bytes.now }
     {
         let inform = read_inform(bytes)?;
         if inform.sender >= self.ring.stations() {
@@ -126,9 +126,9 @@ impl Counter {
 
     // Hearing keeps a station's latest inform about the open request.
     pub fn hear<B: SealBox>(&mut self, seals: &B, bytes: &[u8]) -> Result<(), Fault>
-        ensures answer { (result, self.new.core) ≡ hearing (genuine seals.now) (stations_of self.old.ring) self.old.core bytes.now }
+        ensures answer { (result, self.new.core) ≡ hearing (B.genuine seals.now) (stations_of self.old.ring) self.old.core bytes.now }
         ensures ring { self.new.ring ≡ self.old.ring }
-        ensures sound { SoundIn (genuine seals.now) self.old.core.current → SoundIn (genuine seals.now) self.new.core.current }
+        ensures sound { SoundIn (B.genuine seals.now) self.old.core.current → SoundIn (B.genuine seals.now) self.new.core.current }
     {
         let inform = self.accepted(seals, bytes)?;
         if let Some(mut asked) = self.core.current {

@@ -22,7 +22,7 @@ pub(crate) fn sealed<B: SealBox>(
     sequence: u32,
     bytes: &[u8; 16],
 ) -> Result<Request, Fault>
-    ensures value { result ≡ Ok (sealed_by (tag seals.now) (unsealed client sequence bytes.now)) }
+    ensures value { result ≡ Ok (sealed_by (B.tag seals.now) (unsealed client sequence bytes.now)) }
     ensures long { IfOk result (λ q. length q.payload.bytes ≡ 16) }
 {
     let request = Request {

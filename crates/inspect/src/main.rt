@@ -1,12 +1,14 @@
 // A record by eye. Standard input is a line `ring N`, then records as hex, one to a line. Each is laid out field by
 // field with the places of its fields, or the refusal is named with what stands at its place. After lines `key NUMBER HEX`,
 // with a signer's number and its key of 16 bytes, it also says of each seal whether it is genuine.
+#![tactic(auto)]
+
 mod keys;
 mod page;
 mod parts;
 
 use chain::links::check_chain;
-use hex::decode;
+use hex_text::decode;
 use keys::Keys;
 use page::Page;
 use parts::{fields, title};

@@ -1,4 +1,6 @@
 // The keyed box: it tags a statement by SipHash-2-4 with the signer's key.
+#![tactic(auto)]
+
 ghost use Rattle.std.specs.Prelude.{◌≡◌, ℕ, ◌&&◌, is_ok, IfOk, if◌then◌else◌, Some, None, ◌==◌, nat_eq};
 ghost use Rattle.signers.specs.Signing.{entry_of, made_of};
 ghost use Rattle.signers.specs.Tables.{secret_of, added};

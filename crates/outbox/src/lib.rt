@@ -1,4 +1,6 @@
 // Writing records into a tray.
+#![tactic(auto)]
+
 mod bodies;
 mod certificates;
 mod puts;

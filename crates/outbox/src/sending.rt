@@ -38,8 +38,8 @@ pub fn send<B: SealBox>(
     memory: &mut [u8],
     fill: &mut Fill,
 ) -> Result<(), Fault>
-    ensures sent { Sent memory.old memory.new fill.old.used fill.new.used (record_bytes (under_seal message.now (tag seals.now (covered message.now)))) result }
-    ensures back { ReadsBack memory.new fill.old.used fill.new.used (under_seal message.now (tag seals.now (covered message.now))) result }
+    ensures sent { Sent memory.old memory.new fill.old.used fill.new.used (record_bytes (under_seal message.now (B.tag seals.now (covered message.now)))) result }
+    ensures back { ReadsBack memory.new fill.old.used fill.new.used (under_seal message.now (B.tag seals.now (covered message.now))) result }
 {
     let start = fill.used;
     let mut draft = Draft {

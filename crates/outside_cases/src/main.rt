@@ -6,8 +6,10 @@
 // sixteen bytes of the value (its number mod 251).
 //
 // HEX is `-` for no bytes.
+#![tactic(auto)]
+
 use anyhow::anyhow;
-use hex::decode;
+use hex_text::decode;
 use keyed_box::KeyedBox;
 use quorum::figures::Ring;
 use quorum::refusal::Fault;

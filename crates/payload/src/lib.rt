@@ -1,4 +1,5 @@
 //! What a request asks of a service.
+#![tactic(auto)]
 
 mod payload;
 

@@ -1,4 +1,6 @@
 // The lowest layer: what a refusal is, the figures of a ring, and what quorums promise.
+#![tactic(auto)]
+
 ghost use Rattle.quorum.specs.Sets.{QuorumsShare};
 
 pub mod figures;

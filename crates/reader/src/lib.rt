@@ -1,4 +1,6 @@
 // Reading records from bytes: each reader answers exactly what its definition says of the bytes.
+#![tactic(auto)]
+
 mod bodies;
 mod certificates;
 mod fields;

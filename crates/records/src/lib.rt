@@ -1,4 +1,6 @@
 // The records of the ring, as types.
+#![tactic(auto)]
+
 pub mod arrivals;
 pub mod certificate;
 pub mod few;

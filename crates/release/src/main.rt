@@ -1,11 +1,13 @@
 // From a request to a release. Standard input has one command to a line: `ring N`, `key NUMBER HEX` for each signer,
 // `client NUMBER SEQUENCE`, and then `open PAYLOAD`, `hear RECORD`, `close` and `write-off`. Each is answered in a line.
+#![tactic(auto)]
+
 mod desk;
 mod setup;
 
 use counter::state::Counter;
 use desk::Pending;
-use hex::decode;
+use hex_text::decode;
 use keyed_box::KeyedBox;
 use outbox::tray::Fill;
 use payload::Payload;

@@ -1,5 +1,5 @@
 // What is told before a client starts: the number of stations, and the signers' keys.
-use hex::decode;
+use hex_text::decode;
 use keyed_box::KeyedBox;
 use quorum::figures::Ring;
 use quorum::refusal::Fault;

@@ -1,5 +1,7 @@
 // What a seal box means. A box can seal a statement under its own number, and say of a tag whether it is a signer's
 // genuine seal of a statement. How it does that is the box's own affair: whatever uses one is generic over this trait.
+#![tactic(auto)]
+
 ghost use Rattle.std.specs.Prelude.{ℕ, Bool, true, List, ◌≡◌};
 
 pub trait SealBox {

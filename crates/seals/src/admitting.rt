@@ -66,7 +66,7 @@ pub fn check_sender(ring: Ring, own: u16, arrival: &Arrival) -> Result<(), Fault
 
 // The seals inside a record.
 fn try_inner<B: SealBox>(seals: &B, ring: Ring, arrival: &Arrival) -> Result<(), Fault>
-    ensures { result ≡ first_false (in_reach (B.SealBox.genuine seals.now)) (inner_of (stations_of ring) arrival.now) }
+    ensures { result ≡ first_false (in_reach (B.genuine seals.now)) (inner_of (stations_of ring) arrival.now) }
 {
     match arrival {
         Arrival::Propose(propose) => {
@@ -97,7 +97,7 @@ fn try_inner<B: SealBox>(seals: &B, ring: Ring, arrival: &Arrival) -> Result<(),
 
 // All seals of a record of so many bytes: its own first, which stands last in it.
 fn try_all<B: SealBox>(seals: &B, ring: Ring, arrival: &Arrival, size: usize) -> Result<(), Fault>
-    ensures { result ≡ all_tried (in_reach (B.SealBox.genuine seals.now)) (stations_of ring) (size - 8) arrival.now }
+    ensures { result ≡ all_tried (in_reach (B.genuine seals.now)) (stations_of ring) (size - 8) arrival.now }
 {
     let signer = u16::from(sender(arrival));
     try_seal(
@@ -111,7 +111,7 @@ fn try_all<B: SealBox>(seals: &B, ring: Ring, arrival: &Arrival, size: usize) ->
 }
 
 fn admit_read<B: SealBox>(seals: &B, ring: Ring, own: u16, bytes: &[u8]) -> Result<Arrival, Fault>
-    ensures { result ≡ admitted_at (in_reach (B.SealBox.genuine seals.now)) (stations_of ring) own bytes.now }
+    ensures { result ≡ admitted_at (in_reach (B.genuine seals.now)) (stations_of ring) own bytes.now }
 {
     let arrival = read_arrival(ring, bytes)?;
     check_sender(ring, own, &arrival)?;
@@ -121,7 +121,7 @@ fn admit_read<B: SealBox>(seals: &B, ring: Ring, own: u16, bytes: &[u8]) -> Resu
 }
 
 fn admit_asked<B: SealBox>(seals: &B, bytes: &[u8]) -> Result<Request, Fault>
-    ensures { result ≡ submitted (in_reach (B.SealBox.genuine seals.now)) bytes.now }
+    ensures { result ≡ submitted (in_reach (B.genuine seals.now)) bytes.now }
 {
     let request = read_request(bytes)?;
     try_seal(
@@ -135,7 +135,7 @@ fn admit_asked<B: SealBox>(seals: &B, bytes: &[u8]) -> Result<Request, Fault>
 }
 
 fn admit_told<B: SealBox>(seals: &B, ring: Ring, bytes: &[u8]) -> Result<Inform, Fault>
-    ensures { result ≡ heard (in_reach (B.SealBox.genuine seals.now)) (stations_of ring) bytes.now }
+    ensures { result ≡ heard (in_reach (B.genuine seals.now)) (stations_of ring) bytes.now }
 {
     let inform = read_inform(bytes)?;
     if inform.sender >= ring.stations() {
@@ -153,21 +153,21 @@ fn admit_told<B: SealBox>(seals: &B, ring: Ring, bytes: &[u8]) -> Result<Inform,
 
 // A record that arrives at a station: the refusals 2 to 5, in their order.
 pub fn admit<B: SealBox>(seals: &B, ring: Ring, own: u16, bytes: &[u8]) -> Result<Arrival, Fault>
-    ensures { result ≡ admitted (B.SealBox.genuine seals.now) (stations_of ring) own bytes.now }
+    ensures { result ≡ admitted (B.genuine seals.now) (stations_of ring) own bytes.now }
 {
     admit_read(seals, ring, own, bytes)
 }
 
 // A request that is submitted: it is readable, and its seal is genuine.
 pub fn admit_request<B: SealBox>(seals: &B, bytes: &[u8]) -> Result<Request, Fault>
-    ensures { result ≡ submitted (B.SealBox.genuine seals.now) bytes.now }
+    ensures { result ≡ submitted (B.genuine seals.now) bytes.now }
 {
     admit_asked(seals, bytes)
 }
 
 // An inform that is heard: it is readable, from a station of the ring, and its seal is genuine.
 pub fn admit_inform<B: SealBox>(seals: &B, ring: Ring, bytes: &[u8]) -> Result<Inform, Fault>
-    ensures { result ≡ heard (B.SealBox.genuine seals.now) (stations_of ring) bytes.now }
+    ensures { result ≡ heard (B.genuine seals.now) (stations_of ring) bytes.now }
 {
     admit_told(seals, ring, bytes)
 }

@@ -14,7 +14,7 @@ const LONGEST: usize = 6175;
 
 // Whether a tag is the signer's genuine seal of what a record's own seal covers.
 fn ask<B: SealBox>(seals: &B, signer: u16, message: &Record, tag: u64) -> bool
-    ensures { result ≡ in_reach (B.SealBox.genuine seals.now) signer (covered message.now) tag }
+    ensures { result ≡ in_reach (B.genuine seals.now) signer (covered message.now) tag }
 {
     let mut statement = [0; LONGEST];
     match cover(message, &mut statement) {
@@ -31,7 +31,7 @@ pub(crate) fn try_seal<B: SealBox>(
     tag: u64,
     place: usize,
 ) -> Result<(), Fault>
-    ensures { result ≡ (if in_reach (B.SealBox.genuine seals.now) signer (covered message.now) tag then Ok tt else Err (NotGenuine place)) }
+    ensures { result ≡ (if in_reach (B.genuine seals.now) signer (covered message.now) tag then Ok tt else Err (NotGenuine place)) }
 {
     if !ask(seals, signer, message, tag) {
         return Err(Fault::NotGenuine(place));

@@ -26,7 +26,7 @@ fn try_slot<B: SealBox>(
     place: usize,
 ) -> Result<usize, Fault>
     requires { (station < 10) × (place ≤ 8000) }
-    ensures value { result ≡ slot_tried (in_reach (B.SealBox.genuine seals.now)) (says support) certificate.now.proposal station place seal }
+    ensures value { result ≡ slot_tried (in_reach (B.genuine seals.now)) (says support) certificate.now.proposal station place seal }
     ensures bound { IfOk result (λ next. next ≤ place + 8) }
 {
     let Some(tag) = seal else {
@@ -57,7 +57,7 @@ pub(crate) fn try_certificate<B: SealBox>(
     certificate: &Certificate,
 ) -> Result<(), Fault>
     requires { at ≤ 7800 }
-    ensures { result ≡ certificate_tried (in_reach (B.SealBox.genuine seals.now)) support at certificate.now }
+    ensures { result ≡ certificate_tried (in_reach (B.genuine seals.now)) support at certificate.now }
 {
     let tags: &[Option<u64>] = &certificate.seals;
     let mut place = at + 40;
@@ -75,7 +75,7 @@ pub(crate) fn try_prepared<B: SealBox>(
     certificates: &[Certificate],
 ) -> Result<usize, Fault>
     requires { (at ≤ 7000) × (length certificates.now ≤ 8) }
-    ensures value { result ≡ prepared_tried (in_reach (B.SealBox.genuine seals.now)) (stations_of ring) at certificates.now }
+    ensures value { result ≡ prepared_tried (in_reach (B.genuine seals.now)) (stations_of ring) at certificates.now }
     ensures bound { IfOk result (λ end. end ≤ at + 768) }
 {
     let mut place = at;
@@ -94,7 +94,7 @@ pub(crate) fn try_commit<B: SealBox>(
     commit: &Option<Certificate>,
 ) -> Result<usize, Fault>
     requires { at ≤ 7000 }
-    ensures value { result ≡ commit_tried (in_reach (B.SealBox.genuine seals.now)) (stations_of ring) at commit.now }
+    ensures value { result ≡ commit_tried (in_reach (B.genuine seals.now)) (stations_of ring) at commit.now }
     ensures bound { IfOk result (λ end. end ≤ at + 97) }
 {
     match commit {

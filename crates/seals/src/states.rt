@@ -19,7 +19,7 @@ pub(crate) fn try_state<B: SealBox>(
     state: &ViewState,
 ) -> Result<usize, Fault>
     requires { at ≤ 6800 }
-    ensures value { result ≡ state_tried (in_reach (B.SealBox.genuine seals.now)) (stations_of ring) at state.now }
+    ensures value { result ≡ state_tried (in_reach (B.genuine seals.now)) (stations_of ring) at state.now }
     ensures bound { IfOk result (λ end. end ≤ at + 873) }
 {
     let place = try_commit(seals, ring, at + 7, &state.commit)?;
@@ -34,7 +34,7 @@ fn try_member<B: SealBox>(
     state: &ViewState,
 ) -> Result<usize, Fault>
     requires { at ≤ 6800 }
-    ensures value { result ≡ member_tried (in_reach (B.SealBox.genuine seals.now)) (stations_of ring) at state.now }
+    ensures value { result ≡ member_tried (in_reach (B.genuine seals.now)) (stations_of ring) at state.now }
     ensures bound { IfOk result (λ end. end ≤ at + 881) }
 {
     let place = try_state(seals, ring, at, state)?;
@@ -51,7 +51,7 @@ pub(crate) fn try_states<B: SealBox>(
     states: &[ViewState],
 ) -> Result<(), Fault>
     requires { (at ≤ 8) × (length states.now ≤ 7) }
-    ensures { result ≡ states_tried (in_reach (B.SealBox.genuine seals.now)) (stations_of ring) at states.now }
+    ensures { result ≡ states_tried (in_reach (B.genuine seals.now)) (stations_of ring) at states.now }
 {
     let mut place = at;
     for state in states {

@@ -1,6 +1,7 @@
 //! Services: what a replicated machine does with the payloads that the ring has put in order.
 //! A service means a state; a payload moves it to the next state and gives a result, and both are fixed by state
 //! and payload. Every step can be undone exactly.
+#![tactic(auto)]
 
 mod lone;
 mod service;

@@ -7,7 +7,7 @@ ghost use Rattle.services.specs.declared.slip.Slip.{Slip};
 use crate::slip::Slip;
 use payload::Payload;
 
-/// A service means a state. `step` and `result` are fixed by state and payload, whatever holds the state.
+/// A service means a state. `step` and `answer` are fixed by state and payload, whatever holds the state.
 /// `undoes s p slip`: the slip is one that undoes the step by `p` from the state `s`.
 pub trait Service {
     ghost State: { Type 0 };
@@ -16,14 +16,14 @@ pub trait Service {
 
     ghost step: { State → Payload → State };
 
-    ghost result: { State → Payload → ℕ };
+    ghost answer: { State → Payload → ℕ };
 
     ghost undoes: { State → Payload → Slip → Type 0 };
 
     /// One step: the result, with a slip that undoes it. Any payload is taken.
     fn apply(&mut self, payload: &Payload) -> (u64, Slip)
         ensures steps { state self.new ≡ step (state self.old) payload.now }
-        ensures* answers { λ r. ⌜ r.0 ≡ result (state self.old) payload.now ⌝ }
+        ensures answers { result.0 ≡ answer (state self.old) payload.now }
         ensures slips { undoes (state self.old) payload.now result.1 };
 
     /// From the state that a step left, with a slip that undoes the step: exactly the state before it. Any other
@@ -34,8 +34,8 @@ pub trait Service {
 
 /// Applies a payload and undoes it: the result that was given, and the service as it was.
 pub fn apply_and_undo<S: Service>(service: &mut S, payload: &Payload) -> u64
-    ensures* answers { λ r. ⌜ r ≡ result (state service.old) payload.now ⌝ }
-    ensures back { state service.new ≡ state service.old }
+    ensures answers { result ≡ S.answer (S.state service.old) payload.now }
+    ensures back { S.state service.new ≡ S.state service.old }
 {
     let (result, slip) = service.apply(payload);
     service.undo(payload, &slip);

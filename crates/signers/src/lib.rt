@@ -1,3 +1,5 @@
 // Who may sign: for each number that is known, a secret, as a key. There are places for ten stations and sixteen clients.
+#![tactic(auto)]
+
 pub mod own;
 mod table;

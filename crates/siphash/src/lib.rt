@@ -1,4 +1,6 @@
 // SipHash-2-4: a 64-bit tag of a message under a key of 16 bytes.
+#![tactic(auto)]
+
 ghost use Rattle.std.specs.Prelude.{◌≡◌, ◌+◌, ◌-◌, ◌/◌, ◌≤◌, [], ◌∷◌, ◌++◌, length, take, drop, replicate};
 ghost use Rattle.siphash.specs.Siphash.{sipround, start, compressed, finished, word, little, padded, siphash_of};
 

@@ -1,4 +1,6 @@
 // Runs SipHash-2-4 on all its published vectors, and says of each whether the tag is the published one.
+#![tactic(auto)]
+
 mod known;
 mod published;
 

@@ -1,4 +1,5 @@
 //! The spares store: 32 stocks, one for each part, as a service of the ring.
+#![tactic(auto)]
 
 mod former;
 mod movement;

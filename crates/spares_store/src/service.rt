@@ -38,7 +38,7 @@ impl Service for SparesStore {
 
     ghost step = { stepped };
 
-    ghost result = { answer };
+    ghost answer = { answer };
 
     ghost undoes = { Undoes };
 

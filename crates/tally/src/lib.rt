@@ -1,4 +1,6 @@
 // Counting words: do enough different signers say the same? One count serves every kind of word.
+#![tactic(auto)]
+
 ghost use Rattle.std.specs.Prelude.{◌≡◌, ℕ, Bool, true};
 ghost use Rattle.tally.specs.Tallies.{has, sharers, shared, Tallied};
 

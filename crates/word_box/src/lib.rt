@@ -1,4 +1,6 @@
 // The word box: a signer's tag is the signer's word, whatever it seals. It is for trials, where seals need not be safe.
+#![tactic(auto)]
+
 ghost use Rattle.std.specs.Prelude.{◌≡◌, ℕ, ◌&&◌, length, is_ok, IfOk, if◌then◌else◌, Some, None, ◌==◌, nat_eq};
 ghost use Rattle.signers.specs.Signing.{entry_of, made_of};
 ghost use Rattle.signers.specs.Tables.{secret_of, added};

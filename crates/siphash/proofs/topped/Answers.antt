@@ -6,6 +6,6 @@ pub returns : goal.returns
 returns c =
     let xs = c.args.rest.now in
     let z : length xs - 0 ≡ length xs = omega arith in
-    ap (λ k. set (c.copy-from-slice.new.self ++ drop k (replicate 8 0)) 7 c.args.top) z
-    ∙ ap (λ ys. set (ys ++ drop (length xs) (replicate 8 0)) 7 c.args.top) c.copy-from-slice.ensures.after
+    ap (λ k. set (c.copy_from_slice.new.self ++ drop k (replicate 8 0)) 7 c.args.top) z
+    ∙ ap (λ ys. set (ys ++ drop (length xs) (replicate 8 0)) 7 c.args.top) c.copy_from_slice.ensures.after
     ∙ topped_is xs c.args.top c.requires

@@ -9,4 +9,4 @@ returns c =
     let at = c.args.at in
     let e = length-drop at bs in
     let k : 8 ≤ length (drop at bs) = omega arith in
-    c.from-le-bytes.ensures ∙ sym (simp (get_or-drop, add-zero) at (little_eight (drop at bs) k))
+    c.from_le_bytes.ensures ∙ sym (simp (get_or-drop, add-zero) at (little_eight (drop at bs) k))

@@ -3,7 +3,7 @@ use Rattle.std.proofs.Common.{◌≡◌, ◌+◌, ◌≤◌, arith}
 use Rattle.std.proofs.lemmas.Bool.Decides.{nat_tests}
 use Rattle.tally.proofs.Turns.{says_rest, shared_at, shared_end}
 use Rattle.tally.proofs.count.Goals as goal
-use Rattle.tally.proofs.count.Goals.{then-same+then-not-says, else_same, else-same-via-then-same+else-not-says, else-same-via-else-same}
+use Rattle.tally.proofs.count.Goals.{then-same+then-not-says, else-same, else-same-via-then-same+else-not-says, else-same-via-else-same}
 
 pub loop-i-preserved : goal.loop-i-preserved
 loop-i-preserved g c =
@@ -12,7 +12,7 @@ loop-i-preserved g c =
     let inv = c.loop-i.invariant.0 in
     elim c.if-same.branch [
       | then-same+then-not-says w ↦ (grind (arith, nat_tests), omega (arith, w.signers-is))
-      | else_same w ↦
+      | else-same w ↦
           elim w.else-same.branch [
             | else-same-via-then-same+else-not-says w' ↦ (grind (arith, nat_tests), omega (arith, w.signers-is))
             | else-same-via-else-same w' ↦ (grind (arith, nat_tests), omega (arith, w.signers-is))

@@ -20,7 +20,7 @@ returns-then-from-next c = record {
 pub loop-certificate-preserved : goal.loop-certificate-preserved
 loop-certificate-preserved c =
     let e = round_more (stations_of c.args.ring) c.args.view c.loop-certificate.place c.loop-certificate.next _ _ _ c.loop-certificate-test.true c.if-certificate-view.false (sym c.from.ensures ∙ c.if-from-next.false) in (
-      ap (λ size. rounds_link (stations_of c.args.ring) c.args.view (c.loop-certificate.place + size) (c.loop-certificate.next + 1) (drop (c.loop-certificate.certificate-index + 1) c.args.certificates.now)) c.certificate-size-place.ensures.value ∙ sym e ∙ c.loop-certificate.invariant.0,
+      ap (λ size. rounds_link (stations_of c.args.ring) c.args.view (c.loop-certificate.place + size) (c.loop-certificate.next + 1) (drop (c.loop-certificate.certificate-index + 1) c.args.certificates.now)) c.certificate_size-place.ensures.value ∙ sym e ∙ c.loop-certificate.invariant.0,
       omega arith,
       omega arith,
     )

@@ -9,7 +9,7 @@ pub loop-i-preserved : goal.loop-i-preserved
 loop-i-preserved c =
     let e =
     taken_next c.args.places.now c.loop-i.i c.index-places-i.result (omega arith) c.index-places-i.is
-    c.if-is-none.ensures in
+    c.if-is_none.ensures in
     grind arith
 
 pub returns : goal.returns

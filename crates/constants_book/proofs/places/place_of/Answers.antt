@@ -2,7 +2,7 @@ use Rattle.std.proofs.Common.{◌<◌, ◌≤◌, Option, ◌∙◌, subst, arit
 use Rattle.constants.specs.declared.entry.Entry.{Entry}
 use Rattle.constants_book.proofs.Searches.{meaning_next}
 use Rattle.constants_book.proofs.places.place_of.Goals as goal
-use Rattle.constants_book.proofs.places.place_of.Goals.{in-Some+else-entry-serial, in-default}
+use Rattle.constants_book.proofs.places.place_of.Goals.{in-Some+else-entry-serial, in_default}
 use Rattle.constants_book.specs.Places.{meaning, OfSerial}
 use Rattle.std.proofs.lemmas.List.{at_drop_all}
 use Rattle.std.proofs.lemmas.Bool.Decides.{nat_tests}
@@ -13,7 +13,7 @@ loop-i-preserved c =
     c.index-places-i.is
     (λ found. elim c.match-place.branch [
       | in-Some+else-entry-serial w ↦ w.if-entry-serial.false (subst (OfSerial c.args.serial) w.in-Some.is found)
-      | in-default w ↦ subst (OfSerial c.args.serial) w.in-default.is found
+      | in_default w ↦ subst (OfSerial c.args.serial) w.in_default.is found
     ])
     ∙ c.loop-i.invariant
 

@@ -10,12 +10,12 @@ use Rattle.informs.proofs.agreed.agreed.Goals as goal
 pub returns-in-None : goal.returns-in-None
 returns-in-None c =
     agreed_none (stations_of c.args.ring) c.args.heard.now c.args.ring.some c.requires
-    (of_row c.args.heard.now c.as-slice.result.now c.gathered-informs.result blank_told c.from.result (quorum_of (stations_of c.args.ring)) None c.gathered-informs.ensures c.as-slice.ensures.value (c.from.ensures ∙ c.quorum.ensures) c.in-None.ensures)
+    (of_row c.args.heard.now c.as_slice.result.now c.gathered-informs.result blank_told c.from.result (quorum_of (stations_of c.args.ring)) None c.gathered-informs.ensures c.as_slice.ensures.value (c.from.ensures ∙ c.quorum.ensures) c.in-None.ensures)
 
 pub bounds-heard-from : goal.bounds-heard-from
 bounds-heard-from c =
     let a = agreed_some (stations_of c.args.ring) c.args.heard.now c.args.ring.some c.requires c.in-Some.station
-    (of_row c.args.heard.now c.as-slice.result.now c.gathered-informs.result blank_told c.from.result (quorum_of (stations_of c.args.ring)) (Some c.in-Some.station) c.gathered-informs.ensures c.as-slice.ensures.value (c.from.ensures ∙ c.quorum.ensures) c.in-Some.ensures) in
+    (of_row c.args.heard.now c.as_slice.result.now c.gathered-informs.result blank_told c.from.result (quorum_of (stations_of c.args.ring)) (Some c.in-Some.station) c.gathered-informs.ensures c.as_slice.ensures.value (c.from.ensures ∙ c.quorum.ensures) c.in-Some.ensures) in
     let low : c.in-Some.station < stations_of c.args.ring = a.0 in
     let few = c.args.ring.few in
     omega arith
@@ -23,5 +23,5 @@ bounds-heard-from c =
 pub returns-in-Some : goal.returns-in-Some
 returns-in-Some c =
     let a = agreed_some (stations_of c.args.ring) c.args.heard.now c.args.ring.some c.requires c.in-Some.station
-    (of_row c.args.heard.now c.as-slice.result.now c.gathered-informs.result blank_told c.from.result (quorum_of (stations_of c.args.ring)) (Some c.in-Some.station) c.gathered-informs.ensures c.as-slice.ensures.value (c.from.ensures ∙ c.quorum.ensures) c.in-Some.ensures) in
+    (of_row c.args.heard.now c.as_slice.result.now c.gathered-informs.result blank_told c.from.result (quorum_of (stations_of c.args.ring)) (Some c.in-Some.station) c.gathered-informs.ensures c.as_slice.ensures.value (c.from.ensures ∙ c.quorum.ensures) c.in-Some.ensures) in
     c.said.ensures ∙ ap (λ k. released (get_or c.args.heard.now k None)) c.from-in-Some.ensures ∙ a.1

@@ -13,14 +13,14 @@ loop-m-init c =
 
 pub loop-m-preserved : goal.loop-m-preserved
 loop-m-preserved c =
-    let t = of_row c.args.heard.now c.as-slice.result.now c.gathered-informs.result blank_told c.from.result c.loop-m.m c.tally.result c.gathered-informs.ensures c.as-slice.ensures.value c.from.ensures c.tally.ensures in
-    let few : most_alike c.args.heard.now < c.loop-m.m = (most_if (stations_of c.args.ring) c.args.heard.now c.requires c.loop-m.m c.tally.result c.loop-m-test.true t).1 (sym c.is-some.ensures ∙ c.if-is-some.false) in
+    let t = of_row c.args.heard.now c.as_slice.result.now c.gathered-informs.result blank_told c.from.result c.loop-m.m c.tally.result c.gathered-informs.ensures c.as_slice.ensures.value c.from.ensures c.tally.ensures in
+    let few : most_alike c.args.heard.now < c.loop-m.m = (most_if (stations_of c.args.ring) c.args.heard.now c.requires c.loop-m.m c.tally.result c.loop-m-test.true t).1 (sym c.is_some.ensures ∙ c.if-is_some.false) in
     omega arith
 
-pub returns-then-is-some : goal.returns-then-is-some
-returns-then-is-some c =
-    let t = of_row c.args.heard.now c.as-slice.result.now c.gathered-informs.result blank_told c.from.result c.loop-m.m c.tally.result c.gathered-informs.ensures c.as-slice.ensures.value c.from.ensures c.tally.ensures in
-    let enough : c.loop-m.m ≤ most_alike c.args.heard.now = (most_if (stations_of c.args.ring) c.args.heard.now c.requires c.loop-m.m c.tally.result c.loop-m-test.true t).0 (sym c.is-some.ensures ∙ c.if-is-some.true) in
+pub returns-then-is_some : goal.returns-then-is_some
+returns-then-is_some c =
+    let t = of_row c.args.heard.now c.as_slice.result.now c.gathered-informs.result blank_told c.from.result c.loop-m.m c.tally.result c.gathered-informs.ensures c.as_slice.ensures.value c.from.ensures c.tally.ensures in
+    let enough : c.loop-m.m ≤ most_alike c.args.heard.now = (most_if (stations_of c.args.ring) c.args.heard.now c.requires c.loop-m.m c.tally.result c.loop-m-test.true t).0 (sym c.is_some.ensures ∙ c.if-is_some.true) in
     let most : most_alike c.args.heard.now ≤ c.loop-m.m = c.loop-m.invariant in
     omega arith
 

@@ -2,8 +2,8 @@
 use Rattle.outbox.proofs.Parts.{part_then, part_stop, part_exit}
 use Rattle.outbox.proofs.bodies.put_asking.Goals as goal
 
-pub returns-in-err-client-at : goal.returns-in-err-client-at
-returns-in-err-client-at c = part_exit c.from-residual.result c.from-residual.ensures.1 (part_stop _ c.in-err-client-at.ensures)
+pub returns-in_err-client_at : goal.returns-in_err-client_at
+returns-in_err-client_at c = part_exit c.from_residual.result c.from_residual.ensures.1 (part_stop _ c.in_err-client_at.ensures)
 
 pub returns : goal.returns
-returns c = part_then c.in-ok-client-at.ensures c.put-asked.ensures
+returns c = part_then c.in_ok-client_at.ensures c.put_asked.ensures

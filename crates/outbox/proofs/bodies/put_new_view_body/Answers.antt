@@ -6,14 +6,14 @@ use Rattle.records.specs.Writing as writing
 use Rattle.outbox.specs.Trays.{Written}
 use Rattle.outbox.proofs.bodies.put_new_view_body.Goals as goal
 
-pub returns-in-err-view-at : goal.returns-in-err-view-at
+pub returns-in_err-view_at : goal.returns-in_err-view_at
 unfolding new_view_body
-returns-in-err-view-at c = part_exit c.from-residual.result c.from-residual.ensures.1 (part_stop _ c.in-err-view-at.ensures)
+returns-in_err-view_at c = part_exit c.from_residual.result c.from_residual.ensures.1 (part_stop _ c.in_err-view_at.ensures)
 
-pub returns-in-err-count-at : goal.returns-in-err-count-at
+pub returns-in_err-count_at : goal.returns-in_err-count_at
 unfolding new_view_body
-returns-in-err-count-at c = part_exit c.from-residual-in-err-count-at.result c.from-residual-in-err-count-at.ensures.1 (part_then c.in-ok-view-at.ensures (part_stop _ c.in-err-count-at.ensures))
+returns-in_err-count_at c = part_exit c.from_residual-in_err-count_at.result c.from_residual-in_err-count_at.ensures.1 (part_then c.in_ok-view_at.ensures (part_stop _ c.in_err-count_at.ensures))
 
 pub returns : goal.returns
 unfolding new_view_body
-returns c = part_then c.in-ok-view-at.ensures (part_then c.in-ok-count-at.ensures (subst (λ ss. Written c.put-u32.new.memory c.put-members.new.memory c.in-ok-count-at.count_at (writing.states_bytes ss) c.put-members.result) c.as-slice.ensures.value c.put-members.ensures))
+returns c = part_then c.in_ok-view_at.ensures (part_then c.in_ok-count_at.ensures (subst (λ ss. Written c.put_u32.new.memory c.put_members.new.memory c.in_ok-count_at.count_at (writing.states_bytes ss) c.put_members.result) c.as_slice.ensures.value c.put_members.ensures))

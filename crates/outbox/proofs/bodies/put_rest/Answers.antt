@@ -9,10 +9,10 @@ use Rattle.outbox.proofs.bodies.put_rest.Goals as goal
 pub returns-in-Arrival : goal.returns-in-Arrival
 unfolding rest_bytes
 returns-in-Arrival c =
-    subst (λ a. Written c.args.memory.now c.put-rest-of.new.memory c.args.at (rest_bytes a) c.put-rest-of.result)
-    (sym c.in-Arrival.is) c.put-rest-of.ensures
+    subst (λ a. Written c.args.memory.now c.put_rest_of.new.memory c.args.at (rest_bytes a) c.put_rest_of.result)
+    (sym c.in-Arrival.is) c.put_rest_of.ensures
 
-pub returns-in-default : goal.returns-in-default
-returns-in-default c =
+pub returns-in_default : goal.returns-in_default
+returns-in_default c =
     subst (λ bs. Written c.args.memory.now c.args.memory.now c.args.at bs (Ok c.args.at))
-    (sym (no_rest c.args.message.now c.in-default.not-Arrival)) (part_none c.args.memory.now c.args.at c.requires)
+    (sym (no_rest c.args.message.now c.in_default.not-Arrival)) (part_none c.args.memory.now c.args.at c.requires)

@@ -6,18 +6,18 @@ use Rattle.records.specs.Writing as writing
 use Rattle.outbox.specs.Trays.{Written}
 use Rattle.outbox.proofs.bodies.put_state_body.Goals as goal
 
-pub returns-in-err-view-at : goal.returns-in-err-view-at
+pub returns-in_err-view_at : goal.returns-in_err-view_at
 unfolding state_body
-returns-in-err-view-at c = part_exit c.from-residual.result c.from-residual.ensures.1 (part_stop _ c.in-err-view-at.ensures)
+returns-in_err-view_at c = part_exit c.from_residual.result c.from_residual.ensures.1 (part_stop _ c.in_err-view_at.ensures)
 
-pub returns-in-err-commit-at : goal.returns-in-err-commit-at
+pub returns-in_err-commit_at : goal.returns-in_err-commit_at
 unfolding state_body
-returns-in-err-commit-at c = part_exit c.from-residual-in-err-commit-at.result c.from-residual-in-err-commit-at.ensures.1 (part_then c.in-ok-view-at.ensures (part_stop _ c.in-err-commit-at.ensures))
+returns-in_err-commit_at c = part_exit c.from_residual-in_err-commit_at.result c.from_residual-in_err-commit_at.ensures.1 (part_then c.in_ok-view_at.ensures (part_stop _ c.in_err-commit_at.ensures))
 
-pub returns-in-err-prepared-at : goal.returns-in-err-prepared-at
+pub returns-in_err-prepared_at : goal.returns-in_err-prepared_at
 unfolding state_body
-returns-in-err-prepared-at c = part_exit c.from-residual-in-err-prepared-at.result c.from-residual-in-err-prepared-at.ensures.1 (part_then c.in-ok-view-at.ensures (part_then c.in-ok-commit-at.ensures (part_stop _ c.in-err-prepared-at.ensures)))
+returns-in_err-prepared_at c = part_exit c.from_residual-in_err-prepared_at.result c.from_residual-in_err-prepared_at.ensures.1 (part_then c.in_ok-view_at.ensures (part_then c.in_ok-commit_at.ensures (part_stop _ c.in_err-prepared_at.ensures)))
 
 pub returns : goal.returns
 unfolding state_body
-returns c = part_then c.in-ok-view-at.ensures (part_then c.in-ok-commit-at.ensures (part_then c.in-ok-prepared-at.ensures (subst (λ cs. Written c.put-commit.new.memory c.put-prepared.new.memory c.in-ok-prepared-at.prepared_at (writing.prepared_bytes cs) c.put-prepared.result) c.as-slice.ensures.value c.put-prepared.ensures)))
+returns c = part_then c.in_ok-view_at.ensures (part_then c.in_ok-commit_at.ensures (part_then c.in_ok-prepared_at.ensures (subst (λ cs. Written c.put_commit.new.memory c.put_prepared.new.memory c.in_ok-prepared_at.prepared_at (writing.prepared_bytes cs) c.put_prepared.result) c.as_slice.ensures.value c.put_prepared.ensures)))

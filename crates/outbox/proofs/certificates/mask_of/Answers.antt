@@ -24,7 +24,7 @@ loop-i-preserved c =
     let lt : c.loop-i.i - 1 < length c.args.seals.now = omega arith in
     let here = at_drop_more mask_of c.args.seals.now (c.loop-i.i - 1) None lt in
     let more : mask_of (drop ((c.loop-i.i - 1) + 1) c.args.seals.now) ≡ c.loop-i.mask = ap (λ i. mask_of (drop i c.args.seals.now)) low ∙ sym c.loop-i.invariant.0 in
-    let b : c.from.result ≡ cond (is_some (get_or c.args.seals.now (c.loop-i.i - 1) None)) 1 0 = c.from.ensures ∙ bit c.is-some.result ∙ ap (λ (t : Bool). cond t 1 0) c.is-some.ensures in
+    let b : c.from.result ≡ cond (is_some (get_or c.args.seals.now (c.loop-i.i - 1) None)) 1 0 = c.from.ensures ∙ bit c.is_some.result ∙ ap (λ (t : Bool). cond t 1 0) c.is_some.ensures in
     let s = bit_small (is_some (get_or c.args.seals.now (c.loop-i.i - 1) None)) in
     let up : 2 ^ (10 - (c.loop-i.i - 1)) ≡ 2 ^ (10 - c.loop-i.i) * 2 = ap (λ k. 2 ^ k) (let e : 10 - (c.loop-i.i - 1) ≡ Prim.Native.Nat.suc (10 - c.loop-i.i) = omega arith in e) ∙ pow-suc 2 (10 - c.loop-i.i) in
     (omega (arith, here, more, b), rw up (omega (arith, b, s, c.loop-i.invariant.1)))

@@ -8,19 +8,19 @@ use Rattle.outbox.proofs.certificates.put_commit.Goals as goal
 pub returns-in-None : goal.returns-in-None
 unfolding commit_bytes
 returns-in-None c =
-    subst (λ commit. Written c.args.memory.now c.put-u8.new.memory c.args.at (commit_bytes commit) c.put-u8.result)
-    (sym c.in-None.is) c.put-u8.ensures
+    subst (λ commit. Written c.args.memory.now c.put_u8.new.memory c.args.at (commit_bytes commit) c.put_u8.result)
+    (sym c.in-None.is) c.put_u8.ensures
 
-pub returns-in-err-certificate-at : goal.returns-in-err-certificate-at
+pub returns-in_err-certificate_at-in-Some : goal.returns-in_err-certificate_at-in-Some
 unfolding commit_bytes
-returns-in-err-certificate-at c =
-    subst (λ commit. Written c.args.memory.now c.put-u8-in-Some.new.memory c.args.at (commit_bytes commit) c.from-residual.result)
+returns-in_err-certificate_at-in-Some c =
+    subst (λ commit. Written c.args.memory.now c.put_u8-in-Some.new.memory c.args.at (commit_bytes commit) c.from_residual.result)
     (sym c.in-Some.is)
-    (part_exit c.from-residual.result c.from-residual.ensures.1 (part_stop _ c.in-err-certificate-at.ensures))
+    (part_exit c.from_residual.result c.from_residual.ensures.1 (part_stop _ c.in_err-certificate_at-in-Some.ensures))
 
-pub returns-in-ok-certificate-at : goal.returns-in-ok-certificate-at
+pub returns-in_ok-certificate_at-in-Some : goal.returns-in_ok-certificate_at-in-Some
 unfolding commit_bytes
-returns-in-ok-certificate-at c =
-    subst (λ commit. Written c.args.memory.now c.put-certificate.new.memory c.args.at (commit_bytes commit) c.put-certificate.result)
+returns-in_ok-certificate_at-in-Some c =
+    subst (λ commit. Written c.args.memory.now c.put_certificate.new.memory c.args.at (commit_bytes commit) c.put_certificate.result)
     (sym c.in-Some.is)
-    (part_then c.in-ok-certificate-at.ensures c.put-certificate.ensures)
+    (part_then c.in_ok-certificate_at-in-Some.ensures c.put_certificate.ensures)

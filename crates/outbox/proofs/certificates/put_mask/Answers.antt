@@ -6,5 +6,5 @@ use Rattle.outbox.proofs.certificates.put_mask.Goals as goal
 
 pub returns : goal.returns
 returns c =
-    subst (λ n. Written c.args.memory.now c.put-u16.new.memory c.args.at (put 2 n) c.put-u16.result)
-    c.mask_of.ensures c.put-u16.ensures
+    subst (λ n. Written c.args.memory.now c.put_u16.new.memory c.args.at (put 2 n) c.put_u16.result)
+    c.mask_of.ensures c.put_u16.ensures

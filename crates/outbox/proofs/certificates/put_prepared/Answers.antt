@@ -3,13 +3,13 @@ use Rattle.records.specs.Writing.{prepared_bytes}
 use Rattle.outbox.proofs.Parts.{part_then, part_stop, part_exit, at_place}
 use Rattle.outbox.proofs.certificates.put_prepared.Goals as goal
 
-pub returns-in-err-first-at : goal.returns-in-err-first-at
+pub returns-in_err-first_at : goal.returns-in_err-first_at
 unfolding prepared_bytes
-returns-in-err-first-at c = part_exit c.from-residual.result c.from-residual.ensures.1 (part_stop _ c.in-err-first-at.ensures)
+returns-in_err-first_at c = part_exit c.from_residual.result c.from_residual.ensures.1 (part_stop _ c.in_err-first_at.ensures)
 
 pub returns : goal.returns
 unfolding prepared_bytes
-returns c = part_then c.in-ok-first-at.ensures c.put-certificates.ensures
+returns c = part_then c.in_ok-first_at.ensures c.put_certificates.ensures
 
-pub put-certificates-requires : goal.put-certificates-requires
-put-certificates-requires c = at_place c.in-ok-first-at.ensures
+pub put_certificates-requires : goal.put_certificates-requires
+put_certificates-requires c = at_place c.in_ok-first_at.ensures

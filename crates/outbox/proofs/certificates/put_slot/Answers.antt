@@ -14,5 +14,5 @@ returns-in-None c =
 pub returns-in-Some : goal.returns-in-Some
 unfolding seal_bytes
 returns-in-Some c =
-    subst (λ seal. Written c.args.memory.now c.put-u64.new.memory c.args.at (seal_bytes seal) c.put-u64.result)
-    (sym c.in-Some.is) c.put-u64.ensures
+    subst (λ seal. Written c.args.memory.now c.put_u64.new.memory c.args.at (seal_bytes seal) c.put_u64.result)
+    (sym c.in-Some.is) c.put_u64.ensures

@@ -8,5 +8,5 @@ use Rattle.outbox.proofs.puts.put_mark.Goals as goal
 pub returns : goal.returns
 unfolding mark_bytes
 returns c =
-    subst (λ n. Written c.args.memory.now c.put-u16.new.memory c.args.at (put 2 n) c.put-u16.result)
-    c.letters.ensures c.put-u16.ensures
+    subst (λ n. Written c.args.memory.now c.put_u16.new.memory c.args.at (put 2 n) c.put_u16.result)
+    c.letters.ensures c.put_u16.ensures

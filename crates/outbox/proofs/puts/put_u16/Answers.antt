@@ -7,4 +7,4 @@ use Rattle.outbox.proofs.puts.put_u16.Goals as goal
 pub returns : goal.returns
 returns c =
     subst (λ bytes. Written c.args.memory.now c.put_bytes.new.memory c.args.at bytes c.put_bytes.result)
-    (c.to-be-bytes.ensures ∙ put_two c.args.number) c.put_bytes.ensures
+    (c.to_be_bytes.ensures ∙ put_two c.args.number) c.put_bytes.ensures

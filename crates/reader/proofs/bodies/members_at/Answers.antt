@@ -3,18 +3,18 @@ use Rattle.std.proofs.Common.{◌≡◌, ◌<◌, sym, refl, ◌∙◌, arith, r
 use Rattle.records.proofs.Several.{gathered_push, gathered_fault, gathered_few}
 use Rattle.reader.proofs.bodies.members_at.Goals as goal
 
-pub returns-in-err-state : goal.returns-in-err-state
-returns-in-err-state c =
-    let f = gathered_fault c.loop-i.invariant.0 c.args.count c.loop-i-test.true (sym c.state_at.ensures.value ∙ c.in-err-state.was) in
+pub returns-in_err-state : goal.returns-in_err-state
+returns-in_err-state c =
+    let f = gathered_fault c.loop-i.invariant.0 c.args.count c.loop-i-test.true (sym c.state_at.ensures.value ∙ c.in_err-state.was) in
     search rules
 
 pub loop-i-preserved : goal.loop-i-preserved
 loop-i-preserved c =
-    let few : c.loop-i.-i < 7 = omega arith in
-    let g = gathered_push c.loop-i.invariant.0 c.loop-i.invariant.1 few (sym c.state_at.ensures.value ∙ c.in-ok-state.was) c.push.ensures in
-    (g.0, g.1, omega (arith, c.in-ok-state.ensures.bound))
+    let few : c.loop-i._i < 7 = omega arith in
+    let g = gathered_push c.loop-i.invariant.0 c.loop-i.invariant.1 few (sym c.state_at.ensures.value ∙ c.in_ok-state.was) c.push.ensures in
+    (g.0, g.1, omega (arith, c.in_ok-state.ensures.bound))
 
 pub returns : goal.returns
 returns c =
-    let e : c.loop-i.-i ≡ c.args.count = omega arith in
+    let e : c.loop-i._i ≡ c.args.count = omega arith in
     record { value = sym (gathered_few c.loop-i.invariant.0 c.args.count c.loop-i.states refl c.loop-i.invariant.1 e); bound = omega arith }

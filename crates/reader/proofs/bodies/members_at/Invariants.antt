@@ -8,6 +8,6 @@ use Rattle.reader.proofs.bodies.members_at.Given as goal
 
 abbrev pub invariant-loop-i : goal.invariant-loop-i
 invariant-loop-i l =
-    Gathered (member_at (stations_of l.ring) l.bytes) blank_state 7 l.at l.-i l.states.items l.place
-    × (l.states.len ≡ l.-i)
-    × (l.place ≤ l.at + 881 * l.-i)
+    Gathered (member_at (stations_of l.ring) l.bytes) blank_state 7 l.at l._i l.states.items l.place
+    × (l.states.len ≡ l._i)
+    × (l.place ≤ l.at + 881 * l._i)

@@ -8,6 +8,6 @@ use Rattle.reader.proofs.certificates.certificates_at.Given as goal
 
 abbrev pub invariant-loop-i : goal.invariant-loop-i
 invariant-loop-i l =
-    Gathered (listed_at (stations_of l.ring) l.bytes) blank_certificate 8 l.at l.-i l.certificates.items l.place
-    × (l.certificates.len ≡ l.-i)
-    × (l.place ≤ l.at + 96 * l.-i)
+    Gathered (listed_at (stations_of l.ring) l.bytes) blank_certificate 8 l.at l._i l.certificates.items l.place
+    × (l.certificates.len ≡ l._i)
+    × (l.place ≤ l.at + 96 * l._i)

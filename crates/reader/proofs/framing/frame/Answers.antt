@@ -6,5 +6,5 @@ use Rattle.reader.proofs.framing.frame.Goals as goal
 
 pub returns : goal.returns
 returns c =
-    frame_made c.args.stations _ c.args.bytes.now _ c.in-ok-end.end (ap seen (sym c.in-ok-ring.was) ∙ c.new.ensures)
-    (sym c.first-record.ensures.value ∙ c.in-ok-end.was)
+    frame_made c.args.stations _ c.args.bytes.now _ c.in_ok-end.end (ap seen (sym c.in_ok-ring.was) ∙ c.new.ensures)
+    (sym c.first_record.ensures.value ∙ c.in_ok-end.was)

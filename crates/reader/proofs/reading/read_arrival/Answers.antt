@@ -4,6 +4,6 @@ use Rattle.reader.proofs.reading.read_arrival.Goals as goal
 
 pub returns : goal.returns
 returns c = record {
-  value = c.whole-arrival.ensures;
-  back = arrival_from _ c.args.ring.some c.args.ring.few c.args.bytes.now (all_bytes c.args.bytes.now c.type-inv.bytes) c.whole-arrival.result c.whole-arrival.ensures;
+  value = c.whole_arrival.ensures;
+  back = arrival_from _ c.args.ring.some c.args.ring.few c.args.bytes.now (all_bytes c.args.bytes.now c.type_inv.bytes) c.whole_arrival.result c.whole_arrival.ensures;
 }

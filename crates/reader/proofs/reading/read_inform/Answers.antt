@@ -4,6 +4,6 @@ use Rattle.reader.proofs.reading.read_inform.Goals as goal
 
 pub returns : goal.returns
 returns c = record {
-  value = c.whole-inform.ensures;
-  back = inform_from c.args.bytes.now (all_bytes c.args.bytes.now c.type-inv.bytes) c.whole-inform.result c.whole-inform.ensures;
+  value = c.whole_inform.ensures;
+  back = inform_from c.args.bytes.now (all_bytes c.args.bytes.now c.type_inv.bytes) c.whole_inform.result c.whole_inform.ensures;
 }

@@ -4,6 +4,6 @@ use Rattle.reader.proofs.reading.read_request.Goals as goal
 
 pub returns : goal.returns
 returns c = record {
-  value = c.whole-request.ensures;
-  back = request_from c.args.bytes.now (all_bytes c.args.bytes.now c.type-inv.bytes) c.whole-request.result c.whole-request.ensures;
+  value = c.whole_request.ensures;
+  back = request_from c.args.bytes.now (all_bytes c.args.bytes.now c.type_inv.bytes) c.whole_request.result c.whole_request.ensures;
 }

@@ -5,4 +5,4 @@ use Rattle.reader.proofs.reading.whole_record.Goals as goal
 
 pub returns : goal.returns
 returns c =
-    ends_whole _ _ _ _ _ (sym c.first-behind.ensures ∙ c.in-ok-record.was) (sym c.ends-at.ensures ∙ c.in-ok-ends-at.was)
+    ends_whole _ _ _ _ _ (sym c.first_behind.ensures ∙ c.in_ok-record.was) (sym c.ends_at.ensures ∙ c.in_ok-ends_at.was)

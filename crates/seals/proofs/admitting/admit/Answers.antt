@@ -7,5 +7,5 @@ use Rattle.seals.proofs.admitting.admit.Goals as goal
 
 pub returns : goal.returns
 returns g c =
-    c.admit-read.ensures
-    ∙ admitted_same (g.B.SealBox.genuine c.args.seals.now) c.args.bytes.now (all_bytes c.args.bytes.now c.type-inv.bytes) (stations_of c.args.ring) c.args.own c.args.ring.some c.args.ring.few
+    c.admit_read.ensures
+    ∙ admitted_same (g.B.SealBox.genuine c.args.seals.now) c.args.bytes.now (all_bytes c.args.bytes.now c.type_inv.bytes) (stations_of c.args.ring) c.args.own c.args.ring.some c.args.ring.few

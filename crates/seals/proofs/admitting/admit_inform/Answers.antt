@@ -7,5 +7,5 @@ use Rattle.seals.proofs.admitting.admit_inform.Goals as goal
 
 pub returns : goal.returns
 returns g c =
-    c.admit-told.ensures
-    ∙ heard_same (g.B.SealBox.genuine c.args.seals.now) c.args.bytes.now (all_bytes c.args.bytes.now c.type-inv.bytes) (stations_of c.args.ring)
+    c.admit_told.ensures
+    ∙ heard_same (g.B.SealBox.genuine c.args.seals.now) c.args.bytes.now (all_bytes c.args.bytes.now c.type_inv.bytes) (stations_of c.args.ring)

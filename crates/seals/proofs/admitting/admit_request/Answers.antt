@@ -6,5 +6,5 @@ use Rattle.seals.proofs.admitting.admit_request.Goals as goal
 
 pub returns : goal.returns
 returns g c =
-    c.admit-asked.ensures
-    ∙ submitted_same (g.B.SealBox.genuine c.args.seals.now) c.args.bytes.now (all_bytes c.args.bytes.now c.type-inv.bytes)
+    c.admit_asked.ensures
+    ∙ submitted_same (g.B.SealBox.genuine c.args.seals.now) c.args.bytes.now (all_bytes c.args.bytes.now c.type_inv.bytes)

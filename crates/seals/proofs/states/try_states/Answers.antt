@@ -5,16 +5,16 @@ use Rattle.seals.specs.Reach.{in_reach}
 use Rattle.seals.proofs.Turns.{member_more, member_fault, members_all}
 use Rattle.seals.proofs.states.try_states.Goals as goal
 
-pub returns-in-err-place : goal.returns-in-err-place
-returns-in-err-place g c =
-    let f = member_fault (in_reach (g.B.SealBox.genuine c.args.seals.now)) (stations_of c.args.ring) c.loop-state.place c.args.states.now c.loop-state.state-index _ c.loop-state-test.true (sym c.try-member.ensures.value ∙ c.in-err-place.was) in
+pub returns-in_err-place : goal.returns-in_err-place
+returns-in_err-place g c =
+    let f = member_fault (in_reach (g.B.SealBox.genuine c.args.seals.now)) (stations_of c.args.ring) c.loop-state.place c.args.states.now c.loop-state.state-index _ c.loop-state-test.true (sym c.try_member.ensures.value ∙ c.in_err-place.was) in
     search rules
 
 pub loop-state-preserved : goal.loop-state-preserved
 loop-state-preserved g c = (
-  sym (member_more (in_reach (g.B.SealBox.genuine c.args.seals.now)) (stations_of c.args.ring) c.loop-state.place c.args.states.now c.loop-state.state-index _ c.loop-state-test.true (sym c.try-member.ensures.value ∙ c.in-ok-place.was))
+  sym (member_more (in_reach (g.B.SealBox.genuine c.args.seals.now)) (stations_of c.args.ring) c.loop-state.place c.args.states.now c.loop-state.state-index _ c.loop-state-test.true (sym c.try_member.ensures.value ∙ c.in_ok-place.was))
       ∙ c.loop-state.invariant.0,
-  omega (arith, c.in-ok-place.ensures.bound),
+  omega (arith, c.in_ok-place.ensures.bound),
 )
 
 pub returns : goal.returns

@@ -2,7 +2,7 @@ use Rattle.std.proofs.Common.{arith}
 use Rattle.std.proofs.lemmas.Bool.Decides.{nat_tests}
 use Rattle.signers.proofs.Rows.{found_at, found_end}
 use Rattle.signers.proofs.table.find.Goals as goal
-use Rattle.signers.proofs.table.find.Goals.{in-Some+else-entry-number, in-default}
+use Rattle.signers.proofs.table.find.Goals.{in-Some+else-entry-number, in_default}
 
 pub returns-then-entry-number : goal.returns-then-entry-number
 returns-then-entry-number g c =

@@ -6,10 +6,10 @@ use Rattle.constants_book.proofs.service.ConstantsBookService.apply.Goals as goa
 use Rattle.constants_book.specs.Places.{meaning}
 use Rattle.std.proofs.Common.{ap, ◌∙◌}
 
-pub returns-in-default : goal.returns-in-default
-returns-in-default c =
+pub returns-in_default : goal.returns-in_default
+returns-in_default c =
     let es = c.args.self.now.places in
-    let e = c.in-default.ensures in
+    let e = c.in_default.ensures in
     record {
       steps = ap (carried_out (meaning es)) e;
       answers = c.number.ensures ∙ ap (λ o. number (outcome (meaning es) o)) e;
@@ -23,7 +23,7 @@ pub returns : goal.returns
 returns c =
     let es = c.args.self.now.places in
     let e = c.in-Some.ensures in
-    let done = c.carry-out-outcome.ensures in
+    let done = c.carry_out-outcome.ensures in
     record {
       steps = done.leaves ∙ ap (carried_out (meaning es)) e;
       answers = c.number-2.ensures ∙ ap number done.answers ∙ ap (λ o. number (outcome (meaning es) o)) e;

@@ -5,11 +5,11 @@ use Rattle.constants_book.proofs.service.ConstantsBookService.undo.Goals as goal
 use Rattle.constants_book.specs.Places.{meaning}
 use Rattle.std.proofs.Common.{Some, ap, ◌∙◌}
 
-pub returns-in-default : goal.returns-in-default
-returns-in-default c =
+pub returns-in_default : goal.returns-in_default
+returns-in_default c =
     let f = meaning c.args.self.now.places in
     let former = former_in c.args.slip.now in
-    let restores = ap (λ o. restored f o former) c.in-default.ensures in
+    let restores = ap (λ o. restored f o former) c.in_default.ensures in
     record {
       exact = λ s e u. restores ∙ undone s f c.args.payload.now c.args.slip.now e u;
       restores = restores;
@@ -20,10 +20,10 @@ returns-in-Some-inverse c =
     let f = meaning c.args.self.now.places in
     let former = former_in c.args.slip.now in
     let restores =
-    c.carry-out.ensures.leaves
+    c.carry_out.ensures.leaves
     ∙ ap (carried_out f) c.in-Some-inverse.ensures
-    ∙ ap (λ n. carried_out f (inverse n c.of-slip.result)) c.serial.ensures
-    ∙ ap (restored f (Some c.in-Some.command)) c.of-slip.ensures
+    ∙ ap (λ n. carried_out f (inverse n c.of_slip.result)) c.serial.ensures
+    ∙ ap (restored f (Some c.in-Some.command)) c.of_slip.ensures
     ∙ ap (λ o. restored f o former) c.in-Some.ensures in
     record {
       exact = λ s e u. restores ∙ undone s f c.args.payload.now c.args.slip.now e u;

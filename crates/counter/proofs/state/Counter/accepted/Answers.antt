@@ -9,44 +9,44 @@ use Rattle.counter.proofs.state.Counter.accepted.Goals as goal
 
 pub returns-then-not-ask : goal.returns-then-not-ask
 returns-then-not-ask g c =
-    let i = c.in-ok-inform.inform in
+    let i = c.in_ok-inform.inform in
     let low : i.sender < stations_of c.args.self.now.ring = omega (arith, c.stations.ensures) in
-    let part = covered_part i c.args.bytes.now c.in-ok-inform.ensures.back.1 in
+    let part = covered_part i c.args.bytes.now c.in_ok-inform.ensures.back.1 in
     let asked : g.B.SealBox.genuine c.args.seals.now i.sender (covered (rec.Inform i)) i.seal ≡ c.ask.result =
     ap (λ s. g.B.SealBox.genuine c.args.seals.now s (covered (rec.Inform i)) i.seal) (sym c.from.ensures)
     ∙ ap (λ s. g.B.SealBox.genuine c.args.seals.now c.from.result s i.seal) (sym part)
     ∙ sym c.ask.ensures in
-    sym (taken_is (g.B.SealBox.genuine c.args.seals.now) (stations_of c.args.self.now.ring) c.args.self.now.core.current c.args.bytes.now c.in-ok-inform.inform false (about c.args.self.now.core.current c.in-ok-inform.inform) c.in-ok-inform.ensures.value low (asked ∙ c.if-not-ask.true) refl)
+    sym (taken_is (g.B.SealBox.genuine c.args.seals.now) (stations_of c.args.self.now.ring) c.args.self.now.core.current c.args.bytes.now c.in_ok-inform.inform false (about c.args.self.now.core.current c.in_ok-inform.inform) c.in_ok-inform.ensures.value low (asked ∙ c.if-not-ask.true) refl)
 
 pub returns : goal.returns
 returns g c =
-    let i = c.in-ok-inform.inform in
+    let i = c.in_ok-inform.inform in
     let low : i.sender < stations_of c.args.self.now.ring = omega (arith, c.stations.ensures) in
-    let part = covered_part i c.args.bytes.now c.in-ok-inform.ensures.back.1 in
+    let part = covered_part i c.args.bytes.now c.in_ok-inform.ensures.back.1 in
     let asked : g.B.SealBox.genuine c.args.seals.now i.sender (covered (rec.Inform i)) i.seal ≡ c.ask.result =
     ap (λ s. g.B.SealBox.genuine c.args.seals.now s (covered (rec.Inform i)) i.seal) (sym c.from.ensures)
     ∙ ap (λ s. g.B.SealBox.genuine c.args.seals.now c.from.result s i.seal) (sym part)
     ∙ sym c.ask.ensures in
-    sym (taken_is (g.B.SealBox.genuine c.args.seals.now) (stations_of c.args.self.now.ring) c.args.self.now.core.current c.args.bytes.now c.in-ok-inform.inform true true c.in-ok-inform.ensures.value low (asked ∙ c.if-not-ask.false) (ap (λ o. about o c.in-ok-inform.inform) c.in-Some.is ∙ sym c.same_request.ensures ∙ c.if-not-same-request.false))
+    sym (taken_is (g.B.SealBox.genuine c.args.seals.now) (stations_of c.args.self.now.ring) c.args.self.now.core.current c.args.bytes.now c.in_ok-inform.inform true true c.in_ok-inform.ensures.value low (asked ∙ c.if-not-ask.false) (ap (λ o. about o c.in_ok-inform.inform) c.in-Some.is ∙ sym c.same_request.ensures ∙ c.if-not-same-request.false))
 
 pub returns-then-not-same-request : goal.returns-then-not-same-request
 returns-then-not-same-request g c =
-    let i = c.in-ok-inform.inform in
+    let i = c.in_ok-inform.inform in
     let low : i.sender < stations_of c.args.self.now.ring = omega (arith, c.stations.ensures) in
-    let part = covered_part i c.args.bytes.now c.in-ok-inform.ensures.back.1 in
+    let part = covered_part i c.args.bytes.now c.in_ok-inform.ensures.back.1 in
     let asked : g.B.SealBox.genuine c.args.seals.now i.sender (covered (rec.Inform i)) i.seal ≡ c.ask.result =
     ap (λ s. g.B.SealBox.genuine c.args.seals.now s (covered (rec.Inform i)) i.seal) (sym c.from.ensures)
     ∙ ap (λ s. g.B.SealBox.genuine c.args.seals.now c.from.result s i.seal) (sym part)
     ∙ sym c.ask.ensures in
-    sym (taken_is (g.B.SealBox.genuine c.args.seals.now) (stations_of c.args.self.now.ring) c.args.self.now.core.current c.args.bytes.now c.in-ok-inform.inform true false c.in-ok-inform.ensures.value low (asked ∙ c.if-not-ask.false) (ap (λ o. about o c.in-ok-inform.inform) c.in-Some.is ∙ sym c.same_request.ensures ∙ c.if-not-same-request.true))
+    sym (taken_is (g.B.SealBox.genuine c.args.seals.now) (stations_of c.args.self.now.ring) c.args.self.now.core.current c.args.bytes.now c.in_ok-inform.inform true false c.in_ok-inform.ensures.value low (asked ∙ c.if-not-ask.false) (ap (λ o. about o c.in_ok-inform.inform) c.in-Some.is ∙ sym c.same_request.ensures ∙ c.if-not-same-request.true))
 
-pub returns-in-default : goal.returns-in-default
-returns-in-default g c =
-    let i = c.in-ok-inform.inform in
+pub returns-in_default : goal.returns-in_default
+returns-in_default g c =
+    let i = c.in_ok-inform.inform in
     let low : i.sender < stations_of c.args.self.now.ring = omega (arith, c.stations.ensures) in
-    let part = covered_part i c.args.bytes.now c.in-ok-inform.ensures.back.1 in
+    let part = covered_part i c.args.bytes.now c.in_ok-inform.ensures.back.1 in
     let asked : g.B.SealBox.genuine c.args.seals.now i.sender (covered (rec.Inform i)) i.seal ≡ c.ask.result =
     ap (λ s. g.B.SealBox.genuine c.args.seals.now s (covered (rec.Inform i)) i.seal) (sym c.from.ensures)
     ∙ ap (λ s. g.B.SealBox.genuine c.args.seals.now c.from.result s i.seal) (sym part)
     ∙ sym c.ask.ensures in
-    sym (taken_is (g.B.SealBox.genuine c.args.seals.now) (stations_of c.args.self.now.ring) c.args.self.now.core.current c.args.bytes.now c.in-ok-inform.inform true false c.in-ok-inform.ensures.value low (asked ∙ c.if-not-ask.false) (ap (λ o. about o c.in-ok-inform.inform) c.in-default.is))
+    sym (taken_is (g.B.SealBox.genuine c.args.seals.now) (stations_of c.args.self.now.ring) c.args.self.now.core.current c.args.bytes.now c.in_ok-inform.inform true false c.in_ok-inform.ensures.value low (asked ∙ c.if-not-ask.false) (ap (λ o. about o c.in_ok-inform.inform) c.in_default.is))

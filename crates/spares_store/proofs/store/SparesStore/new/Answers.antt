@@ -1,5 +1,5 @@
 use Rattle.spares_store.proofs.Bounds.{bounded_empty}
 use Rattle.spares_store.proofs.store.SparesStore.new.Goals as goal
 
-pub invariant-of-result : goal.invariant-of-result
-invariant-of-result c = (bounded_empty 32, tt)
+pub invariant_of-result : goal.invariant_of-result
+invariant_of-result c = record { bounded = bounded_empty 32 }

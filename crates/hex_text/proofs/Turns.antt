@@ -1,7 +1,7 @@
 -- One turn of the decoding loop. Assumes nothing.
 use Rattle.std.proofs.Common.{◌≡◌, ℕ, zero, suc, ◌+◌, ◌-◌, ◌*◌, ◌/◌, ◌%◌, ◌<◌, true, cond, eqb, List, [], ◌∷◌, ◌++◌, length, get_or, Some, None, Option, sym, refl, ap, ◌∙◌, subst, add-zero, add-suc, add-one, arith}
 use Rattle.std.proofs.lemmas.Bool.{cond-true, eq-eqb}
-use Rattle.hex.specs.Digits.{byte_of, spelled, decoded}
+use Rattle.hex_text.specs.Digits.{byte_of, spelled, decoded}
 
 pub spelled_more : (cs : List ℕ) (i : ℕ) (bs : List ℕ) (b : ℕ) → spelled cs i ≡ Some bs → byte_of (get_or cs (2 * i) 0) (get_or cs (2 * i + 1) 0) ≡ Some b → spelled cs (i + 1) ≡ Some (bs ++ (b ∷ []))
 spelled_more cs i bs b e f = rw (add-one, e, f)

@@ -1,6 +1,8 @@
 // Bytes from their hexadecimal digits, for the programs that people type records into.
+#![tactic(auto)]
+
 ghost use Rattle.std.specs.Prelude.{◌≡◌, ◌+◌, ◌*◌, ◌<◌, length, IfOk, vec_items};
-ghost use Rattle.hex.specs.Digits.{digit_of, byte_of, decoded};
+ghost use Rattle.hex_text.specs.Digits.{digit_of, byte_of, decoded};
 ghost use Rattle.std.specs.Option.{option_map};
 
 use std::alloc::{AllocError, Global};
