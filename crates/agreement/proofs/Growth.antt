@@ -1,6 +1,6 @@
 -- More seals take nothing away: a step, and so a trace, that rests on some seals rests on any greater set of them.
 -- So the steps of a series, each resting on the seals of its time, make a trace over the seals that exist in the end.
-use Rattle.std.proofs.Common.{ℕ, ◌<◌, List, [], ◌∷◌, Some, None, Option}
+use Rattle.std.proofs.Common.{ℕ, List, [], ◌∷◌, Some, None, Option}
 use Rattle.agreement.specs.Certificates.{Certified, Proven, NewView, LedgerAt, Basis}
 use Rattle.agreement.specs.Runs.{Trace}
 use Rattle.agreement.specs.States.{State}

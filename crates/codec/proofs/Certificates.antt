@@ -1,5 +1,5 @@
 -- Certificates: a proposal, the mask of its seals, and the seals by rising station. Assumes nothing.
-use Rattle.std.proofs.Common.{◌≡◌, ℕ, zero, suc, ◌+◌, ◌-◌, ◌*◌, ◌/◌, ◌^◌, ◌<◌, ◌≤◌, Bool, true, false, cond, ◌&&◌, eqb, leb, List, [], ◌∷◌, ◌++◌, length, get_or, is_some, Some, None, Ok, Err, Option, Result, sym, refl, ap, ◌∙◌, subst, add-zero, arith, length-append}
+use Rattle.std.proofs.Common.{◌≡◌, ℕ, ◌+◌, ◌-◌, ◌*◌, ◌/◌, ◌^◌, ◌<◌, ◌≤◌, Bool, true, false, cond, eqb, List, [], ◌∷◌, ◌++◌, length, get_or, is_some, Some, None, Ok, Option, Result, sym, refl, ap, ◌∙◌, subst, add-zero, arith, length-append}
 use native.Mathlib.Nat.{zero-div}
 use lib.Count.{ones}
 use Rattle.std.specs.List.{flat_map, AllByRecursion as All}
@@ -10,7 +10,7 @@ use Rattle.std.proofs.lemmas.List.{get_or_default}
 use Rattle.quorum.specs.declared.refusal.Fault.{Fault}
 use Rattle.quorum.specs.Figures.{quorum_of}
 use Rattle.records.specs.Numbers.{put, shows, mask_of}
-use Rattle.records.specs.Range.{Bytes, Fits, RightProposal, RightSeal, RightCertificate, seals_there}
+use Rattle.records.specs.Range.{Bytes, Fits, RightSeal, RightCertificate, seals_there}
 use Rattle.records.specs.Reading.{◌then◌, number_at, proposal_at, several, slot_at, seals_at, quorate, certificate_at, certificate_size, listed_at}
 use Rattle.records.specs.Writing.{proposal_bytes, seal_bytes, seals_bytes, certificate_bytes}
 use Rattle.records.specs.declared.certificate.Certificate.{Certificate}

@@ -1,22 +1,17 @@
 -- The figures: quorums, the size of a certificate, and the largest new view. Assumes nothing.
-use Rattle.std.proofs.Common.{◌≡◌, ℕ, zero, suc, ◌+◌, ◌*◌, ◌^◌, ◌<◌, ◌≤◌, List, [], ◌∷◌, ◌++◌, length, get_or, replicate, Some, None, Option, sym, refl, ap, ◌∙◌, subst, suc-mul, arith, length-append}
+use Rattle.std.proofs.Common.{◌≡◌, ℕ, ◌+◌, ◌*◌, ◌^◌, ◌<◌, ◌≤◌, List, [], ◌∷◌, ◌++◌, length, replicate, Some, None, Option, refl, suc-mul, arith, length-append}
 use Rattle.std.specs.List.{flat_map, AllByRecursion as All}
 use Rattle.std.proofs.lemmas.List.{get_or_past}
 use Rattle.std.proofs.ByRecursion.{All-weaker}
-use Rattle.quorum.specs.Figures.{faults_of, quorum_of}
 use Rattle.records.specs.Numbers.{put}
 use Rattle.records.specs.Lists.{listed}
-use Rattle.records.specs.Range.{RightRequest, RightProposal, RightCertificate, RightCommit, RightState, RightNewView}
-use Rattle.records.specs.Reading.{certificate_size}
+use Rattle.records.specs.Range.{RightRequest, RightCertificate, RightCommit, RightState, RightNewView}
 use Rattle.records.specs.Writing.{head_bytes, certificate_bytes, commit_bytes, prepared_bytes, state_body, state_bytes, new_view_body, body_bytes, arrival_bytes, record_bytes, check_commit_body, failure_body, states_bytes}
 use Rattle.records.specs.declared.marks.Mark.TheVariants as mark
 use Rattle.records.specs.declared.request.Request.{Request}
-use Rattle.records.specs.declared.request.Proposal.{Proposal}
 use Rattle.records.specs.declared.certificate.Certificate.{Certificate}
 use Rattle.records.specs.declared.arrivals.ViewState.{ViewState}
 use Rattle.records.specs.declared.arrivals.NewView.{NewView}
-use Rattle.records.specs.declared.arrivals.Arrival.TheVariants as arrival
-use Rattle.records.specs.declared.arrivals.Record.TheVariants as rec
 use Rattle.codec.specs.Laws.{FiguresAre, CertificateSizeFour, CertificateLength, ViewMost, ViewLargest, view_bytes}
 use Rattle.codec.proofs.Numbers.{put_length}
 use Rattle.codec.proofs.Certificates as certificates

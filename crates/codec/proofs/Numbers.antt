@@ -1,7 +1,6 @@
 -- Numbers as bytes: a number in k bytes has k bytes, and is read back from them; k bytes are those of their number.
 -- Assumes nothing.
-use Rattle.std.proofs.Common.{◌≡◌, ℕ, zero, suc, ◌+◌, ◌*◌, ◌/◌, ◌%◌, ◌^◌, ◌<◌, ◌≤◌, List, [], ◌∷◌, ◌++◌, length, get_or, take, sym, refl, ap, ◌∙◌, subst, pow-suc, div-add-mod', add-one, arith, length-append}
-use Rattle.std.specs.List.{AllByRecursion as All}
+use Rattle.std.proofs.Common.{◌≡◌, ℕ, zero, suc, ◌+◌, ◌*◌, ◌/◌, ◌%◌, ◌^◌, ◌<◌, ◌≤◌, List, [], ◌∷◌, ◌++◌, length, get_or, take, sym, refl, ap, ◌∙◌, subst, pow-suc, div-add-mod', add-one, arith}
 use Rattle.std.proofs.lemmas.List.{length_push, length-take-le, take_more, take_all, nil_from_length}
 use Rattle.std.proofs.ByRecursion.{All-take, All-get_or, All-push}
 use Rattle.std.proofs.lemmas.Int.Digits.{number_push, number_lt}

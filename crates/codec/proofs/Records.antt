@@ -1,25 +1,22 @@
 -- Whole records behind their marks: what is read stands there from the first byte on, and what stands there is read.
 -- Assumes nothing.
-use Rattle.std.proofs.Common.{◌≡◌, ℕ, zero, suc, ◌+◌, ◌-◌, ◌*◌, ◌<◌, ◌≤◌, Bool, true, false, cond, eqb, leb, List, [], ◌∷◌, ◌++◌, length, take, drop, Ok, Err, Result, sym, refl, ap, ◌∙◌, subst, zero-add, arith, length-append}
+use Rattle.std.proofs.Common.{◌≡◌, ℕ, ◌+◌, ◌<◌, ◌≤◌, eqb, List, ◌++◌, length, Ok, Result, sym, refl, ap, ◌∙◌, subst, zero-add, arith, length-append}
 use Rattle.std.specs.List.{flat_map, AllByRecursion as All}
-use Rattle.std.proofs.lemmas.List.{append_assoc, take_all}
+use Rattle.std.proofs.lemmas.List.{append_assoc}
 use Rattle.std.proofs.lemmas.Bool.{eqb-true, eq-eqb}
 use Rattle.quorum.specs.declared.refusal.Fault.{Fault}
-use Rattle.quorum.specs.Figures.{quorum_of, faults_of}
+use Rattle.quorum.specs.Figures.{quorum_of}
 use Rattle.records.specs.Numbers.{put}
 use Rattle.records.specs.Lists.{listed, filled}
 use Rattle.records.specs.Blanks.{blank_state}
-use Rattle.records.specs.Range.{Byte, Bytes, Fits, Packed, RightRequest, RightProposal, RightCertificate, RightState, RightNewView, RightClaim, RightCheckCommit, RightFailure, RightInform, RightArrival, RightRecord}
-use Rattle.records.specs.Reading.{◌then◌, number_at, view_at, request_at, proposal_at, certificate_at, certificate_size, several, member_at, members_at, state_at, propose_in, prepare_in, check_commit_in, inform_in, failure_in, new_view_in, mark_at, request_behind, inform_behind, arrival_behind, record_behind, whole, last_view}
-use Rattle.records.specs.Writing.{mark_bytes, head_bytes, request_bytes, proposal_bytes, seals_bytes, certificate_bytes, claim_bytes, state_body, state_bytes, new_view_body, body_bytes, seal_of, inform_body, arrival_bytes, record_bytes, check_commit_body, failure_body, states_bytes}
+use Rattle.records.specs.Range.{Bytes, Fits, Packed, RightRequest, RightProposal, RightState, RightClaim, RightInform, RightArrival}
+use Rattle.records.specs.Reading.{◌then◌, number_at, view_at, request_at, proposal_at, certificate_at, certificate_size, several, member_at, members_at, state_at, propose_in, prepare_in, check_commit_in, inform_in, failure_in, new_view_in, request_behind, inform_behind, arrival_behind, last_view}
+use Rattle.records.specs.Writing.{mark_bytes, head_bytes, request_bytes, proposal_bytes, seals_bytes, certificate_bytes, claim_bytes, state_body, state_bytes, new_view_body, body_bytes, inform_body, arrival_bytes, record_bytes, check_commit_body, failure_body, states_bytes}
 use Rattle.records.specs.declared.few.Few.{Few}
 use Rattle.records.specs.declared.marks.Mark.{Mark}
 use Rattle.records.specs.declared.marks.Mark.TheVariants as mark
 use Rattle.records.specs.declared.request.Request.{Request}
 use Rattle.records.specs.declared.request.Proposal.{Proposal}
-use Rattle.records.specs.declared.certificate.Certificate.{Certificate}
-use Rattle.records.specs.declared.arrivals.Propose.{Propose}
-use Rattle.records.specs.declared.arrivals.Prepare.{Prepare}
 use Rattle.records.specs.declared.arrivals.CheckCommit.{CheckCommit}
 use Rattle.records.specs.declared.arrivals.Inform.{Inform}
 use Rattle.records.specs.declared.arrivals.Failure.{Failure}
@@ -27,13 +24,12 @@ use Rattle.records.specs.declared.arrivals.ViewState.{ViewState}
 use Rattle.records.specs.declared.arrivals.NewView.{NewView}
 use Rattle.records.specs.declared.arrivals.Arrival.{Arrival}
 use Rattle.records.specs.declared.arrivals.Arrival.TheVariants as arrival
-use Rattle.records.specs.declared.arrivals.Record.{Record}
 use Rattle.records.specs.declared.arrivals.Record.TheVariants as rec
 use Rattle.codec.specs.Standing.{Stands}
 use Rattle.codec.proofs.Numbers.{put_length}
 use Rattle.codec.proofs.Standing.{stands_join, stands_left, stands_right, stands_same}
 use Rattle.codec.proofs.Steps.{ok_same, then_by, then_on, check_by, check_on, number_back, number_on, view_back, view_on}
-use Rattle.codec.proofs.Rows.{Got, Row, several_back, several_on, row_all, all_row}
+use Rattle.codec.proofs.Rows.{Got, several_back, several_on, row_all, all_row}
 use Rattle.codec.proofs.Marks.{mark_length, head_join, head_split}
 use Rattle.codec.proofs.Requests as requests
 use Rattle.codec.proofs.Requests.{request_length, proposal_length, proposal_back, proposal_on}

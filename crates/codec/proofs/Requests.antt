@@ -1,8 +1,8 @@
 -- Requests and proposals: what is read stands there as its bytes, and what stands there in range is read. Assumes nothing.
-use Rattle.std.proofs.Common.{◌≡◌, ℕ, ◌+◌, ◌<◌, ◌≤◌, true, leb, List, [], ◌∷◌, ◌++◌, length, Ok, sym, refl, ap, ◌∙◌, subst, arith, length-append}
+use Rattle.std.proofs.Common.{◌≡◌, ℕ, ◌+◌, leb, List, ◌++◌, length, Ok, refl, subst, arith, length-append}
 use Rattle.std.proofs.lemmas.Bool.{leb-true, le-leb}
 use Rattle.records.specs.Numbers.{put}
-use Rattle.records.specs.Range.{Bytes, Fits, RightRequest, RightProposal}
+use Rattle.records.specs.Range.{Bytes, RightRequest, RightProposal}
 use Rattle.records.specs.Reading.{part_at, number_at, view_at, request_at, proposal_at, last_view}
 use Rattle.records.specs.Writing.{asked_bytes, request_bytes, proposal_bytes}
 use Rattle.records.specs.declared.request.Request.{Request}

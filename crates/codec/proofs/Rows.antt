@@ -1,11 +1,11 @@
 -- Values that stand one after another: what each reading keeps, reading several of them keeps. Assumes nothing.
-use Rattle.std.proofs.Common.{◌≡◌, ℕ, zero, suc, ◌+◌, ◌<◌, ◌≤◌, List, [], ◌∷◌, ◌++◌, length, get_or, take, Ok, Err, Result, sym, refl, ap, ◌∙◌, subst, ⊎_elim, add-zero, arith, length-append}
+use Rattle.std.proofs.Common.{◌≡◌, ℕ, zero, suc, ◌+◌, ◌<◌, ◌≤◌, List, [], ◌∷◌, ◌++◌, length, get_or, take, Ok, Result, sym, refl, ap, ◌∙◌, subst, ⊎_elim, add-zero, arith, length-append}
 use Rattle.std.specs.List.{flat_map, AllByRecursion as All}
 use Rattle.std.proofs.lemmas.List.{length_push, get_or_push, get_or_append_left, get_or-take, flat_map_more, nil_from_length, length-take-le}
 use Rattle.std.proofs.ByRecursion.{All-get_or, All-from_get_or}
 use Rattle.std.proofs.lemmas.Bool.{cases_lt}
 use Rattle.quorum.specs.declared.refusal.Fault.{Fault}
-use Rattle.records.specs.Reading.{several, ◌then◌}
+use Rattle.records.specs.Reading.{several}
 use Rattle.codec.specs.Standing.{Stands}
 use Rattle.codec.proofs.Numbers.{snoc_is}
 use Rattle.codec.proofs.Standing.{stands_join, stands_left, stands_right, stands_none, stands_same}

@@ -1,22 +1,18 @@
 -- What seals cover: the bytes of a statement say one thing, and they come first in their record. Assumes nothing.
-use Rattle.std.proofs.Common.{◌≡◌, ℕ, ◌+◌, ◌<◌, ◌≤◌, List, [], ◌∷◌, ◌++◌, length, take, Ok, Err, Option, Result, sym, refl, ap, ◌∙◌, subst, arith, length-append}
+use Rattle.std.proofs.Common.{◌≡◌, ℕ, ◌+◌, ◌≤◌, List, ◌++◌, length, take, Ok, Result, sym, refl, ap, ◌∙◌, arith, length-append}
 use Rattle.std.specs.List.{flat_map, AllByRecursion as All}
 use Rattle.std.proofs.lemmas.List.{append_assoc, take_at, take_all}
 use Rattle.quorum.specs.declared.refusal.Fault.{Fault}
 use Rattle.quorum.specs.Figures.{quorum_of}
 use Rattle.records.specs.Numbers.{put}
-use Rattle.records.specs.Lists.{listed}
 use Rattle.records.specs.Blanks.{blank_certificate, blank_state}
-use Rattle.records.specs.Range.{Byte, Bytes, Fits, RightRequest, RightProposal, RightCertificate, RightCommit, RightState, RightArrival, RightRecord}
+use Rattle.records.specs.Range.{Byte, RightProposal, RightCertificate, RightCommit, RightState}
 use Rattle.records.specs.Reading.{◌then◌, part_at, number_at, proposal_at, several, listed_at, commit_at, member_at, mark_at}
-use Rattle.records.specs.Statements.{Statement, asks, proposes, prepares, checks, informs, alerts, leaves, begins, said_by, statement_of, said_bytes, covered, RightStatement}
-use Rattle.records.specs.Writing.{mark_bytes, head_bytes, asked_bytes, request_bytes, proposal_bytes, seals_bytes, certificate_bytes, commit_bytes, prepared_bytes, state_body, state_bytes, claim_bytes, new_view_body, body_bytes, seal_of, inform_body, arrival_bytes, record_bytes, check_commit_body, failure_body, states_bytes}
+use Rattle.records.specs.Statements.{Statement, asks, proposes, prepares, checks, informs, alerts, leaves, begins, said_bytes, covered, RightStatement}
+use Rattle.records.specs.Writing.{mark_bytes, head_bytes, asked_bytes, request_bytes, proposal_bytes, seals_bytes, certificate_bytes, commit_bytes, prepared_bytes, state_body, state_bytes, claim_bytes, new_view_body, body_bytes, inform_body, arrival_bytes, record_bytes, check_commit_body, failure_body, states_bytes}
 use Rattle.records.specs.declared.marks.Mark.{Mark}
 use Rattle.records.specs.declared.marks.Mark.TheVariants as mark
 use Rattle.records.specs.declared.request.Proposal.{Proposal}
-use Rattle.records.specs.declared.certificate.Certificate.{Certificate}
-use Rattle.records.specs.declared.arrivals.ViewState.{ViewState}
-use Rattle.records.specs.declared.arrivals.Arrival.{Arrival}
 use Rattle.records.specs.declared.arrivals.Arrival.TheVariants as arrival
 use Rattle.records.specs.declared.arrivals.Record.{Record}
 use Rattle.records.specs.declared.arrivals.Record.TheVariants as rec
@@ -27,9 +23,9 @@ use Rattle.codec.proofs.Standing.{stands_left, stands_right, stands_same}
 use Rattle.codec.proofs.Steps.{ok_same, then_on, part_on, number_on}
 use Rattle.codec.proofs.Rows.{several_on, all_row}
 use Rattle.codec.proofs.Marks.{mark_on, mark_length, head_split}
-use Rattle.codec.proofs.Requests.{asked_length, proposal_length, proposal_on}
+use Rattle.codec.proofs.Requests.{proposal_on}
 use Rattle.codec.proofs.Certificates.{listed_on}
-use Rattle.codec.proofs.States.{commit_on, member_on, head_length}
+use Rattle.codec.proofs.States.{commit_on, member_on}
 use Rattle.codec.proofs.Records.{claim_length}
 
 -- how a statement would be read behind its mark

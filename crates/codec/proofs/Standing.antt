@@ -1,6 +1,6 @@
 -- Bytes that stand at a place: two in a row stand where each of them does. Assumes nothing.
-use Rattle.std.proofs.Common.{◌≡◌, ℕ, zero, suc, ◌+◌, ◌-◌, ◌<◌, ◌≤◌, List, [], ◌∷◌, ◌++◌, length, take, drop, sym, refl, ap, ◌∙◌, subst, add_comm, arith, length-append}
-use Rattle.std.proofs.lemmas.List.{append_cancel_left, append-nil, take_at, drop_at, take_all, drop-drop, take-append-drop, length-take-le, length-drop, take-take, drop-take}
+use Rattle.std.proofs.Common.{◌≡◌, ℕ, ◌+◌, ◌≤◌, List, [], ◌++◌, length, take, drop, sym, refl, ap, ◌∙◌, subst, arith, length-append}
+use Rattle.std.proofs.lemmas.List.{take_at, drop_at, drop-drop, take-append-drop, take-take, drop-take}
 use Rattle.codec.specs.Standing.{Stands}
 
 -- a front of n + m bytes is one of n bytes and the m after it

@@ -1,5 +1,5 @@
 -- View states: a commit certificate or none, and the prepared ones above it. Assumes nothing.
-use Rattle.std.proofs.Common.{◌≡◌, ℕ, zero, suc, ◌+◌, ◌-◌, ◌<◌, ◌≤◌, Bool, true, false, cond, eqb, leb, List, [], ◌∷◌, ◌++◌, length, take, replicate, Some, None, Ok, Err, Option, Result, sym, refl, ap, ◌∙◌, subst, add-zero, add_assoc, arith, length-append}
+use Rattle.std.proofs.Common.{◌≡◌, ℕ, zero, suc, ◌+◌, ◌-◌, ◌≤◌, cond, eqb, leb, List, ◌++◌, length, replicate, Some, None, Ok, Option, Result, sym, refl, ap, subst, arith, length-append}
 use Rattle.std.specs.List.{flat_map, AllByRecursion as All}
 use Rattle.std.proofs.lemmas.List.{take_at}
 use Rattle.std.proofs.lemmas.Bool.{eqb-true, leb-true, le-leb}
@@ -8,7 +8,7 @@ use Rattle.records.specs.Numbers.{put}
 use Rattle.records.specs.Lists.{listed, filled}
 use Rattle.records.specs.Blanks.{blank_certificate}
 use Rattle.records.specs.Marks.{letters}
-use Rattle.records.specs.Range.{Byte, Bytes, Fits, Packed, RightCertificate, RightCommit, RightState}
+use Rattle.records.specs.Range.{Bytes, Fits, Packed, RightCertificate, RightCommit, RightState}
 use Rattle.records.specs.Reading.{◌then◌, number_at, view_at, several, certificate_at, certificate_size, listed_at, commit_at, prepared_at, state_at, member_at}
 use Rattle.records.specs.Writing.{mark_bytes, head_bytes, certificate_bytes, commit_bytes, prepared_bytes, state_body, state_bytes}
 use Rattle.records.specs.declared.few.Few.{Few}
@@ -21,7 +21,7 @@ use Rattle.codec.proofs.Numbers.{put_length}
 use Rattle.codec.proofs.Standing.{stands_join, stands_left, stands_right, stands_same}
 use Rattle.codec.proofs.Steps.{ok_same, then_by, then_on, check_by, check_on, number_back, number_on, view_back, view_on}
 use Rattle.codec.proofs.Certificates.{certificate_length, certificate_back, certificate_on, listed_back, listed_on}
-use Rattle.codec.proofs.Rows.{Got, Row, Back, On, several_back, several_on, row_all, all_row}
+use Rattle.codec.proofs.Rows.{Got, Back, On, several_back, several_on, row_all, all_row}
 
 -- the values of a list that was filled up are those that filled it
 pub listed_filled : {A : Type 0} (blank : A) (n : ℕ) (xs : List A) → listed (filled blank n xs) ≡ xs

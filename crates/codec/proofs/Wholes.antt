@@ -1,8 +1,7 @@
 -- The laws of reading and writing whole records. Assumes nothing.
-use Rattle.std.proofs.Common.{◌≡◌, ℕ, ◌+◌, ◌<◌, ◌≤◌, eqb, List, [], ◌∷◌, ◌++◌, length, take, Ok, Err, Result, sym, refl, ap, ◌∙◌, subst, zero-add, arith}
+use Rattle.std.proofs.Common.{◌≡◌, ℕ, ◌≤◌, eqb, List, ◌++◌, length, take, Ok, sym, refl, ap, ◌∙◌, subst, zero-add, arith}
 use Rattle.std.proofs.lemmas.List.{take_all}
 use Rattle.std.proofs.lemmas.Bool.{eqb-true, eq-eqb}
-use Rattle.quorum.specs.declared.refusal.Fault.{Fault}
 use Rattle.records.specs.Range.{Bytes, RightRequest, RightInform, RightArrival, RightRecord}
 use Rattle.records.specs.Reading.{mark_at, request_behind, inform_behind, arrival_behind, record_behind, first_of, whole}
 use Rattle.records.specs.Writing.{mark_bytes, arrival_bytes, record_bytes}

@@ -1,16 +1,15 @@
 -- The rules of every book of constants.
-use Rattle.std.proofs.Common.{◌≡◌, ℕ, ◌+◌, ◌^◌, ◌<◌, ◌≤◌, Bool, true, false, cond, eqb, ◌⊎◌, get_or, take, drop, ℤ, nat_abs, is_some, Some, None, Option, sym, refl, ap, ◌∙◌, subst, inl, inr, ⊎_elim, arith}
-use Rattle.constants.proofs.Counting.{held_written, one_if}
-use Rattle.constants.specs.Books.{Book, Sound, written, held, held_below, outcome, settled, line_of, carried_out, stepped, answer}
+use Rattle.std.proofs.Common.{◌≡◌, ℕ, ◌^◌, ◌<◌, ◌≤◌, Bool, true, false, cond, ◌⊎◌, take, drop, ℤ, nat_abs, is_some, Some, None, Option, sym, refl, ap, ◌∙◌, subst, inl, inr, ⊎_elim, arith}
+use Rattle.constants.proofs.Counting.{held_written}
+use Rattle.constants.specs.Books.{Book, Sound, written, held, outcome, settled, carried_out}
 use Rattle.constants.specs.Commands.{command_of, marked, number_at, offset_bits, serial_in}
 use Rattle.constants.specs.Outcomes.{number}
-use Rattle.constants.specs.Ranges.{InRange, in_range}
+use Rattle.constants.specs.Ranges.{InRange}
 use Rattle.constants.specs.Rules.{BookRules}
 use Rattle.constants.specs.declared.command.Command.{Command}
 use Rattle.constants.specs.declared.command.Command.TheVariants.{Set, Clear}
 use Rattle.constants.specs.declared.outcome.Outcome.{Outcome}
 use Rattle.constants.specs.declared.outcome.Outcome.TheVariants.{Done, NoPlace, WrongPayload, Absent}
-use Rattle.payload.specs.declared.payload.Payload.{Payload}
 use Rattle.services.specs.Zeros.{all_zero}
 use Rattle.std.proofs.lemmas.Bool.{cases_eq}
 use Rattle.std.proofs.lemmas.Bool.Decides.{nat_tests}

@@ -1,9 +1,9 @@
 -- Undoing gives the book as it was: a fact about what books mean, whatever holds the entries.
-use Rattle.std.proofs.Common.{◌≡◌, ℕ, suc, ◌+◌, ◌^◌, ◌<◌, ◌≤◌, Bool, true, false, cond, eqb, ◌⊎◌, ℤ, pos, negsuc, nat_abs, is_some, Some, None, Option, sym, refl, ap, ◌∙◌, inl, inr, ⊎_elim, arith}
+use Rattle.std.proofs.Common.{◌≡◌, ℕ, suc, ◌^◌, ◌<◌, ◌≤◌, true, ◌⊎◌, ℤ, pos, negsuc, is_some, Some, None, Option, refl, ap, ◌∙◌, inl, inr, ⊎_elim, arith}
 use Rattle.constants.proofs.Counting.{held_written, one_if}
-use Rattle.constants.specs.Books.{Book, Sound, Undoes, written, held, held_below, outcome, settled, line_of, carried_out, stepped, was, kept, former_of, restored}
+use Rattle.constants.specs.Books.{Book, Sound, Undoes, written, held, outcome, settled, carried_out, stepped, was, kept, former_of, restored}
 use Rattle.constants.specs.Commands.{command_of, serial_in}
-use Rattle.constants.specs.Ranges.{InRange, in_range}
+use Rattle.constants.specs.Ranges.{InRange}
 use Rattle.constants.specs.Slips.{slip_for, former_in, inverse}
 use Rattle.constants.specs.declared.command.Command.{Command}
 use Rattle.constants.specs.declared.command.Command.TheVariants.{Set, Clear}

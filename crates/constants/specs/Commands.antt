@@ -1,7 +1,7 @@
 -- How a book reads a payload of sixteen bytes: mark (1; 1 set, 2 clear), serial (4), seven zero bytes, offset (4; signed,
 -- in tenths of a millimetre; 0 for clearing). Numbers have their highest byte first. Whether an offset is within the
 -- range of an entry is not asked here.
-use Rattle.std.specs.Prelude.{ℕ, ◌+◌, ◌*◌, cond, List, take, drop, ℤ, Some, None, Option, ◌==◌, slice_index}
+use Rattle.std.specs.Prelude.{ℕ, ◌+◌, ◌*◌, cond, List, take, drop, Some, None, Option, ◌==◌, slice_index}
 use Rattle.constants.specs.declared.command.Command.{Command}
 use Rattle.constants.specs.declared.command.Command.TheVariants.{Set, Clear}
 use Rattle.payload.specs.declared.payload.Payload.{Payload}

@@ -1,5 +1,5 @@
 -- The range of an entry's offset: ±20,000 tenths of a millimetre.
-use Rattle.std.specs.Prelude.{ℕ, ◌≤◌, Bool, ℤ, nat_le, unsigned_abs}
+use Rattle.std.specs.Prelude.{◌≤◌, Bool, ℤ, nat_le, unsigned_abs}
 
 abbrev pub InRange : ℤ → Type 0
 InRange offset = unsigned_abs offset ≤ 20000

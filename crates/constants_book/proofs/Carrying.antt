@@ -1,7 +1,7 @@
 -- What each way through a command does to what the table means.
-use Rattle.std.proofs.Common.{◌≡◌, ℕ, ◌<◌, ◌≤◌, Bool, true, false, cond, ◌||◌, ltb, List, length, get_or, set, ℤ, pos, negsuc, nat_abs, is_some, Some, None, Option, sym, refl, ap, ◌∙◌, subst, arith, w32, SFits}
-use Rattle.constants.specs.Books.{Book, Carried, written, held, outcome, settled, carried_out, former_of, kept, was, offset_in}
-use Rattle.constants.specs.Ranges.{InRange, in_range}
+use Rattle.std.proofs.Common.{◌≡◌, ℕ, ◌<◌, ◌≤◌, true, cond, ◌||◌, ltb, List, length, get_or, set, ℤ, pos, negsuc, nat_abs, is_some, Some, None, Option, sym, refl, ap, ◌∙◌, subst, arith, w32, SFits}
+use Rattle.constants.specs.Books.{Book, Carried, held, outcome, settled, kept, was, offset_in}
+use Rattle.constants.specs.Ranges.{InRange}
 use Rattle.constants.specs.declared.command.Command.{Command}
 use Rattle.constants.specs.declared.outcome.Outcome.{Outcome}
 use Rattle.constants.specs.declared.command.Command.TheVariants.{Set, Clear}
@@ -11,7 +11,7 @@ use Rattle.constants.specs.declared.former.Former.TheVariants.{Unchanged}
 use Rattle.constants.specs.declared.outcome.Outcome.TheVariants.{Done, NoPlace, WrongPayload, Absent}
 use Rattle.constants_book.proofs.Tables.{holds, freed, freed_apart, counted, taken_free, put}
 use Rattle.constants_book.specs.Places.{meaning, apart, taken, OfSerial, PlaceFor}
-use Rattle.std.proofs.lemmas.Bool.{le-leb, lt-leb, le-ltb, lt-ltb, or_left, or_right}
+use Rattle.std.proofs.lemmas.Bool.{le-leb, lt-ltb, or_left, or_right}
 use Rattle.std.proofs.lemmas.Bool.Decides.{nat_tests}
 use Rattle.constants.specs.Commands.{serial_in}
 use mathlib.Core.Path.{fun_ext}

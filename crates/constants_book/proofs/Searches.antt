@@ -1,5 +1,5 @@
 -- A search goes on past a place that it does not look for.
-use Rattle.std.proofs.Common.{◌≡◌, ℕ, suc, ◌+◌, ◌<◌, Bool, true, false, cond, List, [], ◌∷◌, length, get_or, drop, is_some, Some, None, Option, sym, refl, ap, ◌∙◌, arith}
+use Rattle.std.proofs.Common.{◌≡◌, ℕ, suc, ◌+◌, ◌<◌, true, List, ◌∷◌, length, get_or, drop, is_some, Some, None, Option, sym, refl, ap, ◌∙◌, arith}
 use Rattle.constants.specs.declared.entry.Entry.{Entry}
 use Rattle.constants_book.specs.Places.{meaning, taken, OfSerial}
 use Rattle.std.proofs.lemmas.List.{at_drop_more}

@@ -1,10 +1,10 @@
 -- Writing one place of a table, and what the table then means.
-use Rattle.std.proofs.Common.{◌≡◌, ℕ, zero, suc, ◌^◌, ◌<◌, ◌≤◌, Bool, true, false, cond, not, ◌&&◌, eqb, ◌⊎◌, List, [], ◌∷◌, length, get_or, set, replicate, ℤ, is_some, Some, None, Option, sym, refl, ap, ◌∙◌, subst, inl, inr, ⊎_elim, le_of_suc-le-suc, not-suc-le-zero, arith}
+use Rattle.std.proofs.Common.{◌≡◌, ℕ, zero, suc, ◌^◌, ◌<◌, ◌≤◌, true, not, List, [], ◌∷◌, length, get_or, set, ℤ, is_some, Some, None, Option, sym, refl, ap, ◌∙◌, subst, ⊎_elim, le_of_suc-le-suc, not-suc-le-zero, arith}
 use Rattle.constants.proofs.Counting.{held_written, held_empty, one_if}
-use Rattle.constants.specs.Books.{Book, Sound, Carried, written, held, held_below, empty_book, outcome, settled, carried_out, former_of, kept, was, offset_in}
+use Rattle.constants.specs.Books.{Sound, written, held_below}
 use Rattle.constants.specs.Ranges.{InRange}
 use Rattle.constants.specs.declared.entry.Entry.{Entry}
-use Rattle.constants_book.specs.Places.{meaning, apart, taken, OfSerial, PlaceFor}
+use Rattle.constants_book.specs.Places.{meaning, apart, taken, PlaceFor}
 use Rattle.std.proofs.lemmas.List.{set-set, length-set, get_or-set_same}
 use Rattle.std.proofs.lemmas.Bool.{and_parts, and_from, cases_eq}
 use Rattle.std.proofs.lemmas.Bool.Decides.{nat_tests}

@@ -1,5 +1,5 @@
 -- The book's places, and what they mean: the first entry with a serial has its offset.
-use Rattle.std.specs.Prelude.{◌≡◌, ℕ, suc, Bool, true, false, cond, not, ◌&&◌, List, [], ◌∷◌, is_some, Some, None, Option, ◌==◌}
+use Rattle.std.specs.Prelude.{◌≡◌, ℕ, suc, Bool, true, cond, not, ◌&&◌, List, [], ◌∷◌, is_some, Some, None, Option, ◌==◌}
 use Rattle.constants.specs.Books.{Book}
 use Rattle.constants.specs.declared.entry.Entry.{Entry}
 

@@ -1,7 +1,7 @@
 -- What the calls of a counter rest on. Assumes nothing.
-use Rattle.std.proofs.Common.{◌≡◌, ℕ, ◌+◌, ◌-◌, ◌<◌, ◌≤◌, Bool, true, false, cond, ltb, leb, List, [], ◌∷◌, ◌++◌, length, take, set, Some, None, Ok, Err, Option, Result, sym, refl, ap, ◌∙◌, subst, arith, length-append}
+use Rattle.std.proofs.Common.{◌≡◌, ℕ, ◌+◌, ◌-◌, ◌<◌, ◌≤◌, Bool, true, false, cond, ltb, leb, List, ◌++◌, length, take, set, Some, None, Ok, Err, Option, Result, sym, refl, ap, ◌∙◌, subst, arith, length-append}
 use Rattle.std.proofs.lemmas.List.{take_at, take-take}
-use Rattle.std.proofs.lemmas.Bool.{cond-true, cond-false, lt-ltb, le-leb}
+use Rattle.std.proofs.lemmas.Bool.{cond-true, lt-ltb, le-leb}
 use Rattle.std.proofs.lemmas.Bool.Decides.{nat_tests}
 use Rattle.quorum.specs.declared.refusal.Fault.{Fault}
 use Rattle.quorum.specs.declared.refusal.Fault.TheVariants.{NoRoom, WrongSender, NotGenuine, NotNow}
@@ -10,22 +10,20 @@ use Rattle.records.specs.Reading.{inform_of, ◌then◌}
 use Rattle.records.specs.Statements.{covered, rest_bytes}
 use Rattle.records.specs.Writing.{record_bytes, request_bytes, asked_bytes, mark_bytes}
 use Rattle.records.specs.declared.arrivals.Inform.{Inform}
-use Rattle.records.specs.declared.arrivals.Record.{Record}
 use Rattle.records.specs.declared.arrivals.Record.TheVariants as rec
 use Rattle.records.specs.declared.request.Request.{Request}
 use Rattle.records.proofs.Covered.{split_own}
 use Rattle.codec.proofs.Numbers.{put_length}
-use Rattle.informs.specs.Alike.{same_request}
 use Rattle.informs.specs.Agreed.{placed, agreed_by}
-use Rattle.informs.specs.ProofsOfExecution.{Seals, Genuine, Sound, ProofOfExecution}
+use Rattle.informs.specs.ProofsOfExecution.{Seals, Genuine, Sound}
 use Rattle.informs.specs.declared.agreed.Release.{Release}
 use Rattle.informs.specs.Sameness.{request_decides}
 use Rattle.informs.proofs.Executions.{proof_of, placed_set, sound_set}
 use Rattle.outbox.specs.Trays.{Sent}
-use Rattle.counter.specs.Opening.{asks, opened, Posted}
+use Rattle.counter.specs.Opening.{asks, Posted}
 use Rattle.counter.specs.Standing.{placed_in}
 use Rattle.counter.specs.Hearing.{about, judged, taken, noted, kept, SoundIn}
-use Rattle.counter.specs.Closing.{served, closing, closed_for, closed_on, ended, Released}
+use Rattle.counter.specs.Closing.{served, closing, closed_for, closed_on, Released}
 use Rattle.counter.specs.declared.parts.Asked.{Asked}
 use Rattle.counter.specs.declared.parts.Core.{Core}
 use Rattle.counter.specs.declared.parts.Ticket.{Ticket}

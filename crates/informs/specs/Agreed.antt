@@ -1,5 +1,5 @@
 -- What informs say together. There is a row of places, one for each station's latest inform.
-use Rattle.std.specs.Prelude.{ℕ, suc, ◌+◌, max, Bool, true, false, cond, ◌&&◌, List, [], ◌∷◌, length, Some, None, Option, ◌==◌, nat_le, nat_lt}
+use Rattle.std.specs.Prelude.{ℕ, suc, max, Bool, true, cond, ◌&&◌, List, [], ◌∷◌, length, Some, None, Option, ◌==◌, nat_le, nat_lt}
 use Rattle.quorum.specs.Figures.{quorum_of}
 use Rattle.records.specs.declared.arrivals.Inform.{Inform}
 use Rattle.informs.specs.Alike.{alike}

@@ -5,7 +5,6 @@ use Rattle.siphash.specs.Siphash.{siphash_of}
 use Rattle.siphash.specs.declared.Key.{Key}
 use Rattle.signers.specs.declared.table.Table.{Table}
 use Rattle.signers.specs.Signing.{own_of, table_of}
-use Rattle.signers.specs.Tables.{secret_of}
 use Rattle.keyed_box.specs.declared.KeyedBox.{KeyedBox}
 
 -- the number that a box seals under

@@ -1,6 +1,6 @@
 -- What writing does to memory and to a tray. A tray is memory with a fill: the bytes below the fill are records that
 -- were sent, and nothing is said of those above it.
-use Rattle.std.specs.Prelude.{◌≡◌, ℕ, ◌+◌, ◌<◌, ◌≤◌, cond, List, ◌++◌, length, take, Ok, Err, Result, OnOk, nat_le}
+use Rattle.std.specs.Prelude.{◌≡◌, ℕ, ◌+◌, ◌≤◌, cond, List, ◌++◌, length, take, Ok, Err, Result, OnOk, nat_le}
 use Rattle.std.specs.List.{between}
 use Rattle.records.specs.Range.{RightRecord}
 use Rattle.records.specs.Reading.{record_of}

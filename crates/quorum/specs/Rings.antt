@@ -1,5 +1,5 @@
 -- What making a ring answers, and what a ring is known by: its number of replicas.
-use Rattle.std.specs.Prelude.{ℕ, ◌≤◌, Bool, cond, ◌&&◌, Ok, Err, Result, nat_le}
+use Rattle.std.specs.Prelude.{ℕ, cond, ◌&&◌, Ok, Err, Result, nat_le}
 use Rattle.quorum.specs.declared.figures.Ring.{Ring}
 use Rattle.quorum.specs.declared.refusal.Fault.{Fault}
 use Rattle.quorum.specs.declared.refusal.Fault.TheVariants.{WrongSender}

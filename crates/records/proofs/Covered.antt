@@ -1,8 +1,8 @@
 -- A record is what its seal covers, what stands behind that, and the seal. Assumes nothing.
-use Rattle.std.proofs.Common.{◌≡◌, ℕ, List, [], ◌∷◌, ◌++◌, sym, refl, ap, ◌∙◌, append_assoc}
+use Rattle.std.proofs.Common.{◌≡◌, ℕ, [], ◌++◌, sym, refl, ap, ◌∙◌, append_assoc}
 use Rattle.records.specs.Numbers.{put}
 use Rattle.records.specs.Writing.{claim_bytes, mark_bytes, asked_bytes, request_bytes, seals_bytes, check_commit_body, failure_body, state_body, new_view_body, body_bytes, inform_body, arrival_bytes, record_bytes}
-use Rattle.records.specs.Statements.{said_bytes, said_by, statement_of, covered, rest_of, rest_bytes, own_seal, resealed, under_seal}
+use Rattle.records.specs.Statements.{said_bytes, covered, rest_of, rest_bytes, own_seal, under_seal}
 use Rattle.records.specs.declared.arrivals.CheckCommit.{CheckCommit}
 use Rattle.records.specs.declared.arrivals.Arrival.{Arrival}
 use Rattle.records.specs.declared.arrivals.Arrival.TheVariants as arrival

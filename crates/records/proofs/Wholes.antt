@@ -1,5 +1,5 @@
 -- A record that was read to the end of the bytes is the answer. Assumes nothing.
-use Rattle.std.proofs.Common.{◌≡◌, ℕ, eqb, List, length, Ok, Err, Result, arith}
+use Rattle.std.proofs.Common.{◌≡◌, ℕ, eqb, List, length, Ok, Result, arith}
 use Rattle.std.proofs.lemmas.Bool.Decides.{nat_tests}
 use Rattle.quorum.specs.declared.refusal.Fault.{Fault}
 use Rattle.records.specs.Reading.{◌then◌, check, whole}

@@ -1,5 +1,5 @@
 -- Numbers as bytes: unsigned, highest byte first. And the sets of stations that a mask shows.
-use Rattle.std.specs.Prelude.{ℕ, zero, suc, ◌+◌, ◌*◌, ◌/◌, ◌%◌, ◌^◌, Bool, true, false, cond, List, [], ◌∷◌, ◌++◌, is_some, Some, None, Option, ◌==◌}
+use Rattle.std.specs.Prelude.{ℕ, zero, suc, ◌+◌, ◌*◌, ◌/◌, ◌%◌, ◌^◌, Bool, cond, List, [], ◌∷◌, ◌++◌, is_some, Option, ◌==◌}
 use Rattle.std.specs.Int.Digits.{number_from_digits}
 
 -- a number in k bytes, highest first

@@ -1,12 +1,11 @@
 -- How bytes are read: strictly from left to right, field by field. A field that is not whole is a fault at the input's
 -- end, a whole field with a wrong value one at its first byte, and a byte after the record one at that byte.
-use Rattle.std.specs.Prelude.{ℕ, zero, suc, ◌+◌, ◌*◌, ◌/◌, ◌^◌, Bool, true, false, cond, not, ◌&&◌, List, [], ◌∷◌, ◌++◌, length, take, drop, replicate, Some, None, Ok, Err, Option, Result, ◌==◌, count_ones, nat_le}
+use Rattle.std.specs.Prelude.{ℕ, zero, suc, ◌+◌, ◌*◌, ◌/◌, ◌^◌, Bool, cond, ◌&&◌, List, [], ◌∷◌, ◌++◌, length, take, drop, Some, None, Ok, Err, Option, Result, ◌==◌, count_ones, nat_le}
 use Rattle.quorum.specs.declared.refusal.Fault.{Fault}
 use Rattle.quorum.specs.declared.refusal.Fault.TheVariants.{Unreadable, WrongSender}
 use Rattle.quorum.specs.Figures.{quorum_of}
-use Rattle.payload.specs.declared.payload.Payload.{Payload}
 use Rattle.records.specs.Numbers.{number_of, shows}
-use Rattle.records.specs.Lists.{listed, bare, pushed, filled}
+use Rattle.records.specs.Lists.{filled}
 use Rattle.records.specs.Marks.{mark_of, letters}
 use Rattle.records.specs.Blanks.{blank_certificate, blank_state}
 use Rattle.records.specs.declared.few.Few.{Few}

@@ -4,7 +4,6 @@ use Rattle.std.specs.List.{AllByRecursion as All}
 use Rattle.quorum.specs.Figures.{quorum_of}
 use Rattle.records.specs.Lists.{listed}
 use Rattle.records.specs.Numbers.{put}
-use Rattle.records.specs.Reading.{last_view}
 use Rattle.records.specs.Range.{Byte, Bytes, Fits, RightProposal, RightCertificate, RightCommit, RightState}
 use Rattle.records.specs.Writing.{mark_bytes, head_bytes, claim_bytes, commit_bytes, prepared_bytes, seals_bytes, states_bytes, seal_of}
 use Rattle.records.specs.declared.marks.Mark.TheVariants as mark

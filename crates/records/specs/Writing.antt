@@ -1,5 +1,5 @@
 -- What each record is as bytes, and which of its bytes its own seal covers.
-use Rattle.std.specs.Prelude.{ℕ, ◌+◌, ◌*◌, List, [], ◌∷◌, ◌++◌, length, Some, None, Option}
+use Rattle.std.specs.Prelude.{ℕ, List, [], ◌++◌, length, Some, None, Option}
 use Rattle.std.specs.List.{flat_map}
 use Rattle.records.specs.Numbers.{put, mask_of}
 use Rattle.records.specs.Lists.{listed}
@@ -9,8 +9,6 @@ use Rattle.records.specs.declared.marks.Mark.TheVariants as mark
 use Rattle.records.specs.declared.request.Request.{Request}
 use Rattle.records.specs.declared.request.Proposal.{Proposal}
 use Rattle.records.specs.declared.certificate.Certificate.{Certificate}
-use Rattle.records.specs.declared.arrivals.Propose.{Propose}
-use Rattle.records.specs.declared.arrivals.Prepare.{Prepare}
 use Rattle.records.specs.declared.arrivals.CheckCommit.{CheckCommit}
 use Rattle.records.specs.declared.arrivals.Inform.{Inform}
 use Rattle.records.specs.declared.arrivals.Failure.{Failure}

@@ -1,16 +1,16 @@
 -- No statement in a record that is read is out of the code's reach. Assumes nothing.
-use Rattle.std.proofs.Common.{◌≡◌, ℕ, ◌+◌, ◌-◌, ◌<◌, ◌≤◌, Bool, true, false, cond, ◌&&◌, ltb, leb, List, [], ◌∷◌, ◌++◌, length, Some, None, Ok, Err, Option, Result, sym, refl, ap, ◌∙◌, subst, arith, length-append}
+use Rattle.std.proofs.Common.{◌≡◌, ℕ, ◌+◌, ◌-◌, ◌≤◌, Bool, cond, ◌&&◌, ltb, List, [], ◌∷◌, ◌++◌, length, Some, None, Ok, Err, Option, Result, sym, refl, ap, ◌∙◌, arith, length-append}
 use Rattle.std.specs.List.{AllByRecursion as All}
 use Rattle.std.proofs.lemmas.Bool.{le-leb}
 use Rattle.quorum.specs.declared.refusal.Fault.{Fault}
 use Rattle.quorum.specs.declared.refusal.Fault.TheVariants.{WrongSender}
 use Rattle.records.specs.Numbers.{put}
 use Rattle.records.specs.Lists.{listed}
-use Rattle.records.specs.Range.{Bytes, RightRequest, RightProposal, RightCertificate, RightCommit, RightState, RightArrival, RightInform, RightRecord}
+use Rattle.records.specs.Range.{Bytes, RightRequest, RightProposal, RightCertificate, RightCommit, RightState, RightArrival, RightInform}
 use Rattle.records.specs.Reading.{◌then◌, certificate_size, arrival_of, request_of, inform_of}
 use Rattle.records.specs.Chain.{chain_of}
 use Rattle.records.specs.Statements.{Statement, prepares, checks, said_bytes, said_by, statement_of, covered, rest_bytes, own_seal}
-use Rattle.records.specs.Writing.{record_bytes, arrival_bytes, body_bytes, state_bytes, state_body, claim_bytes, head_bytes, inform_body}
+use Rattle.records.specs.Writing.{record_bytes, arrival_bytes, body_bytes, state_bytes, claim_bytes, head_bytes}
 use Rattle.records.specs.declared.marks.Mark.TheVariants as mark
 use Rattle.records.specs.declared.request.Request.{Request}
 use Rattle.records.specs.declared.request.Proposal.{Proposal}
@@ -27,8 +27,8 @@ use Rattle.codec.proofs.Records.{claim_length}
 use Rattle.codec.proofs.States.{head_length}
 use Rattle.codec.proofs.Figures.{state_most}
 use Rattle.codec.proofs.Laws.{view_most, covered_length, arrival_back, request_back, inform_back}
-use Rattle.seals.specs.Tried.{Tried, quorum_seals, certificate_seals, prepared_seals, commit_seals, after_commit, state_seals, state_seal_at, state_says, states_seals, inner_of, seals_of, own_of, seals_of_request, seals_of_inform, first_false}
-use Rattle.seals.specs.Reach.{in_reach, longest}
+use Rattle.seals.specs.Tried.{Tried, quorum_seals, certificate_seals, prepared_seals, commit_seals, after_commit, state_seals, state_seal_at, state_says, states_seals, inner_of, seals_of, seals_of_request, seals_of_inform, first_false}
+use Rattle.seals.specs.Reach.{in_reach}
 use Rattle.seals.specs.Admitted.{sender_of, all_tried, admitted_at, admitted, submitted, heard}
 
 abbrev Short : Tried → Type 0

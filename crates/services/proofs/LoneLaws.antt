@@ -1,5 +1,5 @@
 -- The laws of the lone service, each by one induction along the list.
-use Rattle.std.proofs.Common.{◌≡◌, ℕ, zero, suc, ◌+◌, ◌<◌, List, [], ◌∷◌, ◌++◌, length, get_or, take, sym, refl, ap, ◌∙◌, le_of_suc-le-suc, not-suc-le-zero, add-one}
+use Rattle.std.proofs.Common.{◌≡◌, ℕ, zero, suc, ◌+◌, ◌<◌, List, [], ◌∷◌, ◌++◌, length, get_or, take, sym, refl, ap, ◌∙◌, le_of_suc-le-suc, not-suc-le-zero}
 use Rattle.services.specs.Lone.{state_after, results_of, Appending, Beginning}
 use Rattle.std.proofs.lemmas.List.{get_or-take}
 use native.Mathlib.Numerals.{lt-add-one}

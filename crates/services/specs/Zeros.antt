@@ -1,5 +1,5 @@
 -- The part of a payload that a layout leaves empty.
-use Rattle.std.specs.Prelude.{ℕ, Bool, true, false, ◌&&◌, List, [], ◌∷◌, ◌==◌}
+use Rattle.std.specs.Prelude.{ℕ, Bool, true, ◌&&◌, List, [], ◌∷◌, ◌==◌}
 
 abbrev pub all_zero : List ℕ → Bool
 all_zero [] = true

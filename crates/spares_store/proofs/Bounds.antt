@@ -1,5 +1,5 @@
 -- The stocks stay within their bounds.
-use Rattle.std.proofs.Common.{◌≡◌, ℕ, ◌<◌, ◌≤◌, ◌⊎◌, List, length, get_or, set, replicate, sym, subst, ⊎_elim, arith}
+use Rattle.std.proofs.Common.{◌≡◌, ℕ, ◌<◌, ◌≤◌, List, length, get_or, set, replicate, sym, subst, ⊎_elim, arith}
 use Rattle.spares_store.specs.Outcomes.{after_moving}
 use Rattle.spares_store.specs.Stocks.{Bounded}
 use Rattle.spares_store.specs.declared.movement.Direction.{Direction}

@@ -1,5 +1,5 @@
 -- What the tests on a payload show.
-use Rattle.std.proofs.Common.{◌≡◌, ℕ, ◌<◌, Bool, true, cond, ◌&&◌, ltb, get_or, take, drop, Some, None, Option, sym, ap, ◌∙◌}
+use Rattle.std.proofs.Common.{◌≡◌, ◌<◌, true, cond, ◌&&◌, ltb, get_or, take, drop, Some, None, sym, ap, ◌∙◌}
 use Rattle.payload.specs.declared.payload.Payload.{Payload}
 use Rattle.services.specs.Zeros.{all_zero}
 use Rattle.spares_store.specs.Movements.{direction_of, movement_of, moving, part_in, quantity_in, well_formed}

@@ -1,11 +1,11 @@
 -- The rules of the store.
-use Rattle.std.proofs.Common.{◌≡◌, ℕ, ◌<◌, ◌≤◌, List, length, get_or, set, Some, None, Option, sym, refl, ap, ◌∙◌, arith}
+use Rattle.std.proofs.Common.{◌≡◌, ℕ, ◌<◌, ◌≤◌, List, length, get_or, Some, None, Option, refl, arith}
 use Rattle.spares_store.proofs.Bounds.{bounded_set, bounded_moving}
 use Rattle.spares_store.specs.Movements.{movement_of}
 use Rattle.spares_store.specs.Outcomes.{after_moving, number}
 use Rattle.spares_store.specs.Rules.{StoreRules}
-use Rattle.spares_store.specs.Stocks.{Bounded, answer, moved, outcome, settled, stepped}
-use Rattle.spares_store.specs.declared.movement.Direction.TheVariants.{In, Out}
+use Rattle.spares_store.specs.Stocks.{Bounded, moved, outcome, settled}
+use Rattle.spares_store.specs.declared.movement.Direction.TheVariants.{Out}
 use Rattle.spares_store.specs.declared.movement.Movement.{Movement}
 use Rattle.spares_store.specs.declared.outcome.Outcome.{Outcome}
 use Rattle.spares_store.specs.declared.outcome.Outcome.TheVariants.{Stock, TooFew, TooMany, WrongPayload}

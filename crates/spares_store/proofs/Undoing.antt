@@ -1,9 +1,8 @@
 -- Undoing gives the stocks as they were.
-use Rattle.std.proofs.Common.{◌≡◌, ℕ, ◌<◌, ◌≤◌, Bool, true, false, cond, List, get_or, set, Some, None, Option, sym, refl, ap, ◌∙◌, arith}
+use Rattle.std.proofs.Common.{◌≡◌, ℕ, ◌<◌, ◌≤◌, Bool, true, false, cond, List, get_or, set, Some, None, Option, refl, ap, ◌∙◌, arith}
 use Rattle.payload.specs.declared.payload.Payload.{Payload}
 use Rattle.services.specs.declared.slip.Slip.{Slip}
 use Rattle.spares_store.specs.Movements.{movement_of, moving, well_formed, direction_of}
-use Rattle.spares_store.specs.Outcomes.{after_moving}
 use Rattle.spares_store.specs.Slips.{Undoes, slip_for, former_in, put_back, kept, former_of}
 use Rattle.spares_store.specs.Stocks.{Bounded, outcome, settled, moved, stepped}
 use Rattle.spares_store.specs.declared.movement.Movement.{Movement}

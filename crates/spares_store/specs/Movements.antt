@@ -1,6 +1,6 @@
 -- How the store reads a payload of sixteen bytes: mark (1; 3 in, 4 out), part (1; 0 to 31), quantity (2; highest byte
 -- first; 1 or more), twelve zero bytes. Any other payload is wrong.
-use Rattle.std.specs.Prelude.{ℕ, ◌+◌, ◌*◌, Bool, true, false, cond, ◌&&◌, List, take, drop, Some, None, Option, ◌==◌, nat_lt, slice_index}
+use Rattle.std.specs.Prelude.{ℕ, ◌+◌, ◌*◌, Bool, cond, ◌&&◌, take, drop, Some, None, Option, ◌==◌, nat_lt, slice_index}
 use Rattle.payload.specs.declared.payload.Payload.{Payload}
 use Rattle.services.specs.Zeros.{all_zero}
 use Rattle.spares_store.specs.declared.movement.Direction.{Direction}

@@ -3,7 +3,7 @@ use Rattle.std.specs.Prelude.{◌≡◌, ℕ, ◌<◌, ◌≤◌, List, length, 
 use Rattle.payload.specs.declared.payload.Payload.{Payload}
 use Rattle.spares_store.specs.Movements.{movement_of}
 use Rattle.spares_store.specs.Stocks.{Bounded, answer, stepped}
-use Rattle.spares_store.specs.declared.movement.Direction.TheVariants.{In, Out}
+use Rattle.spares_store.specs.declared.movement.Direction.TheVariants.{Out}
 use Rattle.spares_store.specs.declared.movement.Movement.{Movement}
 
 pub record StoreRules : Type 0 where

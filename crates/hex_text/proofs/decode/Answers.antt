@@ -1,5 +1,5 @@
 -- Each turn spells one byte more; two characters that spell none end it.
-use Rattle.std.proofs.Common.{Some, sym, ap, ◌∙◌, arith}
+use Rattle.std.proofs.Common.{Some, sym, ap, ◌∙◌}
 use Rattle.hex_text.proofs.Turns.{spelled_more, spelled_stop}
 use Rattle.hex_text.proofs.decode.Goals as goal
 

@@ -1,4 +1,4 @@
-use Rattle.std.proofs.Common.{◌≡◌, ◌≤◌, length, drop, sym, ◌∙◌, add-zero, arith}
+use Rattle.std.proofs.Common.{◌≤◌, length, drop, sym, ◌∙◌, add-zero, arith}
 use Rattle.std.proofs.lemmas.List.{get_or-drop, length-drop}
 use Rattle.siphash.proofs.Words.{little_eight}
 use Rattle.siphash.proofs.word_at.Goals as goal

@@ -1,5 +1,5 @@
 -- Each word that says the same counts unless its signer says so again further on.
-use Rattle.std.proofs.Common.{◌≡◌, ◌+◌, ◌≤◌, arith}
+use Rattle.std.proofs.Common.{◌+◌, arith}
 use Rattle.std.proofs.lemmas.Bool.Decides.{nat_tests}
 use Rattle.tally.proofs.Turns.{says_rest, shared_at, shared_end}
 use Rattle.tally.proofs.count.Goals as goal

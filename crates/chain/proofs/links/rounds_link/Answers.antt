@@ -1,5 +1,5 @@
 -- Each turn tries one certificate; what is left gives the answer.
-use Rattle.std.proofs.Common.{◌≡◌, ◌+◌, drop, sym, ap, ◌∙◌, arith}
+use Rattle.std.proofs.Common.{◌+◌, drop, sym, ap, ◌∙◌, arith}
 use Rattle.quorum.specs.Rings.{stations_of}
 use Rattle.records.specs.Chain.{rounds_link}
 use Rattle.chain.proofs.Steps.{view_broken, round_broken, round_more, rounds_all}

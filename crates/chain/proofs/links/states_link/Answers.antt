@@ -1,5 +1,5 @@
 -- Each turn tries one view state; what is left gives the answer.
-use Rattle.std.proofs.Common.{◌≡◌, sym, ◌∙◌, arith, rules}
+use Rattle.std.proofs.Common.{sym, ◌∙◌, arith, rules}
 use Rattle.chain.proofs.Steps.{state_broken, state_more, states_all}
 use Rattle.chain.proofs.links.states_link.Goals as goal
 

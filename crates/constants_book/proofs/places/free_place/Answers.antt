@@ -1,4 +1,4 @@
-use Rattle.std.proofs.Common.{◌<◌, ◌≤◌, arith}
+use Rattle.std.proofs.Common.{arith}
 use Rattle.constants_book.proofs.Searches.{taken_next}
 use Rattle.constants_book.proofs.places.free_place.Goals as goal
 use Rattle.constants_book.specs.Places.{taken}

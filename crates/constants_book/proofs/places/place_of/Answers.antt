@@ -1,5 +1,4 @@
-use Rattle.std.proofs.Common.{◌<◌, ◌≤◌, Option, ◌∙◌, subst, arith}
-use Rattle.constants.specs.declared.entry.Entry.{Entry}
+use Rattle.std.proofs.Common.{◌∙◌, subst, arith}
 use Rattle.constants_book.proofs.Searches.{meaning_next}
 use Rattle.constants_book.proofs.places.place_of.Goals as goal
 use Rattle.constants_book.proofs.places.place_of.Goals.{in-Some+else-entry-serial, in_default}

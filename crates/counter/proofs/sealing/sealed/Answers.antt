@@ -1,8 +1,5 @@
 -- The paper has just the room, and its first part is what the seal covers.
-use Rattle.std.proofs.Common.{◌≡◌, length, Ok, sym, refl, ap, ◌∙◌, arith}
-use Rattle.records.specs.Writing.{record_bytes}
-use Rattle.records.specs.declared.arrivals.Record.TheVariants as rec
-use Rattle.records.specs.declared.request.Request.{Request}
+use Rattle.std.proofs.Common.{Ok, refl, ap, ◌∙◌, arith}
 use Rattle.counter.specs.Opening.{unsealed}
 use Rattle.counter.proofs.Facts.{request_long, no_refusal, laid}
 use Rattle.counter.proofs.sealing.sealed.Goals as goal

@@ -1,6 +1,6 @@
 -- Where the tally names none, no inform has a quorum; where it names a station, that station's inform has one, and what
 -- two quorums say is the same.
-use Rattle.std.proofs.Common.{◌≡◌, ◌<◌, get_or, Some, None, ap, ◌∙◌, arith}
+use Rattle.std.proofs.Common.{◌<◌, get_or, Some, None, ap, ◌∙◌, arith}
 use Rattle.quorum.specs.Figures.{quorum_of}
 use Rattle.quorum.specs.Rings.{stations_of}
 use Rattle.informs.specs.Agreed.{blank_told, released}

@@ -1,4 +1,4 @@
-use Rattle.std.proofs.Common.{◌≡◌, ◌+◌, take, None, sym, ap, ◌∙◌}
+use Rattle.std.proofs.Common.{take, None, sym, ap, ◌∙◌}
 use Rattle.std.proofs.lemmas.List.{take_all}
 use Rattle.records.specs.Lists.{filled, pushed}
 use Rattle.informs.specs.Agreed.{told, told_by, blank_told}

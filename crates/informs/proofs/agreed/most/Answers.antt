@@ -1,5 +1,5 @@
 -- While the tally names none for m, fewer than m are alike.
-use Rattle.std.proofs.Common.{◌≡◌, ◌<◌, ◌≤◌, true, false, Some, None, Option, sym, ◌∙◌, subst, arith}
+use Rattle.std.proofs.Common.{◌<◌, ◌≤◌, sym, ◌∙◌, arith}
 use Rattle.quorum.specs.Rings.{stations_of}
 use Rattle.informs.specs.Agreed.{blank_told, most_alike}
 use Rattle.informs.proofs.Rows.{of_row, most_if, most_in_ring}

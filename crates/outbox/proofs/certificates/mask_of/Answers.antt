@@ -1,5 +1,5 @@
 -- Each turn puts one station more below those that the mask has.
-use Rattle.std.proofs.Common.{◌≡◌, ℕ, ◌+◌, ◌-◌, ◌*◌, ◌^◌, ◌<◌, ◌≤◌, Bool, true, false, cond, length, get_or, drop, is_some, None, Option, sym, refl, ap, ◌∙◌, subst, pow-suc, arith}
+use Rattle.std.proofs.Common.{◌≡◌, ◌+◌, ◌-◌, ◌*◌, ◌^◌, ◌<◌, ◌≤◌, Bool, true, false, cond, length, get_or, drop, is_some, None, sym, refl, ap, ◌∙◌, pow-suc, arith}
 use mir.Val.{bool_byte}
 use Rattle.std.proofs.lemmas.List.{drop_all, at_drop_more}
 use Rattle.records.specs.Numbers.{mask_of}

@@ -1,5 +1,5 @@
 -- The bytes that the machine gives are the number in 2 bytes.
-use Rattle.std.proofs.Common.{◌≡◌, ◌∙◌, subst}
+use Rattle.std.proofs.Common.{◌∙◌, subst}
 use Rattle.records.proofs.Puts.{put_two}
 use Rattle.outbox.specs.Trays.{Written}
 use Rattle.outbox.proofs.puts.put_u16.Goals as goal

@@ -1,5 +1,5 @@
 -- The bytes that the machine gives are the number in 4 bytes.
-use Rattle.std.proofs.Common.{◌≡◌, ◌∙◌, subst}
+use Rattle.std.proofs.Common.{◌∙◌, subst}
 use Rattle.records.proofs.Puts.{put_four}
 use Rattle.outbox.specs.Trays.{Written}
 use Rattle.outbox.proofs.puts.put_u32.Goals as goal

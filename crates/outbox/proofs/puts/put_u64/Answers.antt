@@ -1,5 +1,5 @@
 -- The bytes that the machine gives are the number in 8 bytes.
-use Rattle.std.proofs.Common.{◌≡◌, ◌∙◌, subst}
+use Rattle.std.proofs.Common.{◌∙◌, subst}
 use Rattle.records.proofs.Puts.{put_eight}
 use Rattle.outbox.specs.Trays.{Written}
 use Rattle.outbox.proofs.puts.put_u64.Goals as goal

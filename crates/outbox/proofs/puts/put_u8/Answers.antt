@@ -1,5 +1,5 @@
 -- The bytes that the machine gives are the number in 1 bytes.
-use Rattle.std.proofs.Common.{◌≡◌, ◌∙◌, subst}
+use Rattle.std.proofs.Common.{◌∙◌, subst}
 use Rattle.records.proofs.Puts.{put_one}
 use Rattle.outbox.specs.Trays.{Written}
 use Rattle.outbox.proofs.puts.put_u8.Goals as goal

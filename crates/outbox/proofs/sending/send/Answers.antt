@@ -1,6 +1,6 @@
 -- The covered part, what stands behind it and the seal follow one another; on every way out without the seal the
 -- fill is put back.
-use Rattle.std.proofs.Common.{◌≡◌, ℕ, ◌++◌, sym, ap, ◌∙◌}
+use Rattle.std.proofs.Common.{ℕ, ◌++◌, sym, ap, ◌∙◌}
 use Rattle.records.specs.Numbers.{put}
 use Rattle.records.specs.Statements.{covered, rest_bytes, under_seal}
 use Rattle.records.proofs.Covered.{split_under}

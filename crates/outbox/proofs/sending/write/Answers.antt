@@ -1,10 +1,10 @@
 -- The covered part, what stands behind it and the seal follow one another; on every way out without the seal the
 -- fill is put back.
-use Rattle.std.proofs.Common.{◌≡◌, ℕ, ◌++◌, sym, ap, ◌∙◌}
+use Rattle.std.proofs.Common.{ℕ, ◌++◌, sym, ap, ◌∙◌}
 use Rattle.records.specs.Numbers.{put}
 use Rattle.records.specs.Statements.{covered, rest_bytes}
 use Rattle.records.proofs.Covered.{split_own}
-use Rattle.outbox.proofs.Parts.{part_then, part_stop, part_seen, sent_whole, sent_none, sent_as, sent_back}
+use Rattle.outbox.proofs.Parts.{part_then, part_stop, sent_whole, sent_none, sent_as, sent_back}
 use Rattle.outbox.proofs.sending.write.Goals as goal
 
 pub returns-in_err-covered_end : goal.returns-in_err-covered_end

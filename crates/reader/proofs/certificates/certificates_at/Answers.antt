@@ -1,5 +1,5 @@
 -- Each turn reads one certificate into its place; a fault at one is the fault of all.
-use Rattle.std.proofs.Common.{◌≡◌, ◌+◌, ◌*◌, ◌<◌, ◌≤◌, sym, refl, ap, ◌∙◌, arith, rules}
+use Rattle.std.proofs.Common.{◌≡◌, ◌<◌, sym, refl, ◌∙◌, arith, rules}
 use Rattle.records.proofs.Several.{gathered_push, gathered_fault, gathered_few}
 use Rattle.reader.proofs.certificates.certificates_at.Goals as goal
 

@@ -1,5 +1,5 @@
 -- Each turn tries one station's seal; what is left gives the answer.
-use Rattle.std.proofs.Common.{◌≡◌, sym, ◌∙◌, arith, rules}
+use Rattle.std.proofs.Common.{sym, ◌∙◌, arith, rules}
 use Rattle.seals.specs.Reach.{in_reach}
 use Rattle.seals.specs.Supports.{says}
 use Rattle.seals.proofs.Turns.{slot_more, slot_fault, slot_all}

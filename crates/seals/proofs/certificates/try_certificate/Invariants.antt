@@ -1,5 +1,5 @@
 -- What is left of the stations gives what all of them give.
-use Rattle.std.proofs.Common.{◌≡◌, ◌+◌, ◌*◌, ◌≤◌, length, drop}
+use Rattle.std.proofs.Common.{◌≡◌, ◌+◌, ◌*◌, ◌≤◌, drop}
 use Rattle.seals.specs.Tried.{quorum_seals, first_false}
 use Rattle.seals.specs.Supports.{says, certificate_tried}
 use Rattle.seals.specs.Reach.{in_reach}

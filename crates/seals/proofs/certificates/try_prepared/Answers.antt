@@ -1,5 +1,5 @@
 -- Each turn tries one certificate; what is left gives the answer.
-use Rattle.std.proofs.Common.{◌≡◌, ℕ, ◌+◌, ◌*◌, ◌≤◌, length, drop, Ok, sym, ap, ◌∙◌, suc-mul, add-one, arith}
+use Rattle.std.proofs.Common.{◌≡◌, ◌+◌, ◌*◌, ◌≤◌, length, drop, Ok, sym, ap, ◌∙◌, suc-mul, add-one, arith}
 use Rattle.quorum.specs.Rings.{stations_of}
 use Rattle.records.specs.Reading.{certificate_size, ◌then◌}
 use Rattle.std.proofs.lemmas.Result.{IfOk-from_err}

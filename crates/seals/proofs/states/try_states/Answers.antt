@@ -1,5 +1,5 @@
 -- Each turn tries one view state; what is left gives the answer.
-use Rattle.std.proofs.Common.{◌≡◌, ◌+◌, sym, ◌∙◌, arith, rules}
+use Rattle.std.proofs.Common.{sym, ◌∙◌, arith, rules}
 use Rattle.quorum.specs.Rings.{stations_of}
 use Rattle.seals.specs.Reach.{in_reach}
 use Rattle.seals.proofs.Turns.{member_more, member_fault, members_all}

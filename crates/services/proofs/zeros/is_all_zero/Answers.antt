@@ -2,7 +2,7 @@ use Rattle.services.proofs.zeros.is_all_zero.Goals as goal
 use Rattle.services.specs.Zeros.{all_zero}
 use Rattle.std.proofs.lemmas.List.{at_drop_more, at_drop_all}
 use Rattle.std.proofs.lemmas.Bool.Decides.{nat_tests}
-use Rattle.std.proofs.Common.{◌<◌, ◌≤◌, length, arith}
+use Rattle.std.proofs.Common.{arith}
 
 pub returns-then-byte-ne-EMPTY : goal.returns-then-byte-ne-EMPTY
 returns-then-byte-ne-EMPTY c =

@@ -1,4 +1,4 @@
-use Rattle.std.proofs.Common.{ℕ, set, None, sym, refl, ap, ◌∙◌, subst}
+use Rattle.std.proofs.Common.{set, None, sym, refl, ap, ◌∙◌, subst}
 use Rattle.constants.specs.Books.{Carried, offset_in, was}
 use Rattle.constants.specs.declared.command.Command.TheVariants.{Clear}
 use Rattle.constants.specs.declared.former.Former.{Former}

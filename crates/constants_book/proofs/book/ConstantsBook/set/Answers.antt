@@ -1,4 +1,4 @@
-use Rattle.std.proofs.Common.{◌≡◌, ℕ, ◌<◌, length, get_or, set, Some, None, sym, refl, ap, ◌∙◌, subst, w32}
+use Rattle.std.proofs.Common.{ℕ, get_or, set, Some, None, sym, refl, ap, ◌∙◌, subst, w32}
 use Rattle.constants.specs.Books.{Carried, offset_in, was}
 use Rattle.constants.specs.declared.command.Command.TheVariants.{Set}
 use Rattle.constants.specs.declared.former.Former.{Former}

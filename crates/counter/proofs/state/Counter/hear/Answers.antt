@@ -8,7 +8,7 @@ pub bounds-asked-from : goal.bounds-asked-from
 bounds-asked-from g c = place_low (g.B.SealBox.genuine c.args.seals.now) (stations_of c.args.self.now.ring) c.args.self.now.core.current c.in-Some.asked c.in_ok-inform.inform c.from.result c.in-Some.is c.from.ensures (passed (g.B.SealBox.genuine c.args.seals.now) (stations_of c.args.self.now.ring) c.args.self.now.core.current c.args.bytes.now c.in_ok-inform.inform c.in_ok-inform.ensures) c.args.self.now.ring.few
 
 pub invariant_of-self : goal.invariant_of-self
-invariant_of-self g c = (tt, (still_placed (g.B.SealBox.genuine c.args.seals.now) (stations_of c.args.self.now.ring) c.args.self.now.core.current c.in-Some.asked c.in_ok-inform.inform c.from.result c.in-Some.is c.from.ensures (passed (g.B.SealBox.genuine c.args.seals.now) (stations_of c.args.self.now.ring) c.args.self.now.core.current c.args.bytes.now c.in_ok-inform.inform c.in_ok-inform.ensures) c.args.self.now.placed, tt))
+invariant_of-self g c = record { placed = still_placed (g.B.SealBox.genuine c.args.seals.now) (stations_of c.args.self.now.ring) c.args.self.now.core.current c.in-Some.asked c.in_ok-inform.inform c.from.result c.in-Some.is c.from.ensures (passed (g.B.SealBox.genuine c.args.seals.now) (stations_of c.args.self.now.ring) c.args.self.now.core.current c.args.bytes.now c.in_ok-inform.inform c.in_ok-inform.ensures) c.args.self.now.placed }
 
 pub returns-in-Some : goal.returns-in-Some
 returns-in-Some g c = record {

@@ -1,6 +1,6 @@
 -- With room for the request, sending it does not refuse.
-use Rattle.std.proofs.Common.{◌≡◌, ◌+◌, ◌≤◌, length, sym, refl, ap, ◌∙◌, subst, arith}
-use Rattle.counter.specs.Opening.{asks, opened, Posted}
+use Rattle.std.proofs.Common.{◌+◌, ◌≤◌, length, refl, ap, subst, arith}
+use Rattle.counter.specs.Opening.{opened, Posted}
 use Rattle.counter.proofs.Facts.{request_long, no_refusal, posted, asked_in_room}
 use Rattle.counter.proofs.state.Counter.open.Goals as goal
 

@@ -1,4 +1,4 @@
-use Rattle.std.proofs.Common.{◌≡◌, arith, rules}
+use Rattle.std.proofs.Common.{arith}
 use Rattle.signers.proofs.own.Signers.add.Goals as goal
 
 pub invariant_of-self : goal.invariant_of-self

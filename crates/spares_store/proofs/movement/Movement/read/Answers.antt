@@ -1,4 +1,4 @@
-use Rattle.std.proofs.Common.{◌≡◌, ℕ, ◌<◌, get_or, Some, Option, sym, ap, ◌∙◌, arith}
+use Rattle.std.proofs.Common.{◌≡◌, ℕ, Some, sym, ap, ◌∙◌, arith}
 use Rattle.spares_store.proofs.Reading.{movement_read}
 use Rattle.spares_store.proofs.movement.Movement.read.Goals as goal
 use Rattle.spares_store.specs.Movements.{part_in, quantity_in}

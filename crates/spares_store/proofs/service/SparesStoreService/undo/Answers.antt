@@ -2,7 +2,7 @@ use Rattle.spares_store.proofs.Bounds.{bounded_set}
 use Rattle.spares_store.proofs.Undoing.{undone}
 use Rattle.spares_store.proofs.service.SparesStoreService.undo.Goals as goal
 use Rattle.spares_store.specs.Slips.{put_back}
-use Rattle.std.proofs.Common.{◌≡◌, ap, ◌∙◌}
+use Rattle.std.proofs.Common.{ap, ◌∙◌}
 
 pub invariant_of-self : goal.invariant_of-self
 invariant_of-self c = record {
