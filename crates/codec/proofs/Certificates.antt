@@ -2,7 +2,7 @@
 use Rattle.std.proofs.Common.{◌≡◌, ℕ, ◌+◌, ◌-◌, ◌*◌, ◌/◌, ◌^◌, ◌<◌, ◌≤◌, Bool, true, false, cond, eqb, List, [], ◌∷◌, ◌++◌, length, get_or, is_some, Some, None, Ok, Option, Result, sym, refl, ap, ◌∙◌, subst, add-zero, arith, length-append}
 use native.Mathlib.Nat.{zero-div}
 use lib.Count.{ones}
-use Rattle.std.specs.List.{flat_map, AllByRecursion as All}
+use Rattle.std.specs.List.{flat_map, AllByRecursion}
 use Rattle.std.proofs.lemmas.Bool.{eqb-true, eq-eqb, and_parts, and_from}
 use Rattle.std.proofs.ByRecursion.{All-get_or, All-from_get_or}
 use Rattle.std.proofs.lemmas.Nat.{shr-shr}
@@ -95,7 +95,7 @@ mask_ten n mask l h =
     ap (λ k. mask / 2 ^ k) (sym more) ∙ sym (shr-shr mask n (10 - n)) ∙ ap (λ m. m / 2 ^ (10 - n)) h ∙ zero-div (2 ^ (10 - n))
 
 -- a quorum of seals below n, as the mask has it
-seals_right : (n mask : ℕ) (seals : List (Option ℕ)) → n ≤ 10 → quorate n mask ≡ true → Row (RightSlot mask) 10 seals → (mask_of seals ≡ mask) × All RightSeal seals × (seals_there seals ≡ quorum_of n) × ((i : ℕ) → n ≤ i → get_or seals i None ≡ None)
+seals_right : (n mask : ℕ) (seals : List (Option ℕ)) → n ≤ 10 → quorate n mask ≡ true → Row (RightSlot mask) 10 seals → (mask_of seals ≡ mask) × AllByRecursion RightSeal seals × (seals_there seals ≡ quorum_of n) × ((i : ℕ) → n ≤ i → get_or seals i None ≡ None)
 seals_right n mask seals ten q r =
     let t = and_parts (eqb (mask / 2 ^ n) 0) (eqb (ones mask) (quorum_of n)) q in
     let high : mask / 2 ^ n ≡ 0 = eqb-true (mask / 2 ^ n) 0 t.0 in

@@ -1,6 +1,6 @@
 -- The figures: quorums, the size of a certificate, and the largest new view. Assumes nothing.
 use Rattle.std.proofs.Common.{◌≡◌, ℕ, ◌+◌, ◌*◌, ◌^◌, ◌<◌, ◌≤◌, List, [], ◌∷◌, ◌++◌, length, replicate, Some, None, Option, refl, suc-mul, arith, length-append}
-use Rattle.std.specs.List.{flat_map, AllByRecursion as All}
+use Rattle.std.specs.List.{flat_map, AllByRecursion}
 use Rattle.std.proofs.lemmas.List.{get_or_past}
 use Rattle.std.proofs.ByRecursion.{All-weaker}
 use Rattle.records.specs.Numbers.{put}
@@ -28,7 +28,7 @@ pub certificate_length : CertificateLength
 certificate_length = certificates.certificate_length
 
 -- values of at most b bytes each, and of exactly b
-joined_most : {A : Type 0} (w : A → List ℕ) (b : ℕ) (xs : List A) → All (λ x. length (w x) ≤ b) xs → length (flat_map w xs) ≤ length xs * b
+joined_most : {A : Type 0} (w : A → List ℕ) (b : ℕ) (xs : List A) → AllByRecursion (λ x. length (w x) ≤ b) xs → length (flat_map w xs) ≤ length xs * b
 joined_most w b [] h = omega arith
 joined_most w b (x ∷ xs) h =
     let ih = joined_most w b xs h.1 in
@@ -37,7 +37,7 @@ joined_most w b (x ∷ xs) h =
     let m = suc-mul (length xs) b in
     omega arith
 
-joined_exact : {A : Type 0} (w : A → List ℕ) (b : ℕ) (xs : List A) → All (λ x. length (w x) ≡ b) xs → length (flat_map w xs) ≡ length xs * b
+joined_exact : {A : Type 0} (w : A → List ℕ) (b : ℕ) (xs : List A) → AllByRecursion (λ x. length (w x) ≡ b) xs → length (flat_map w xs) ≡ length xs * b
 joined_exact w b [] h = omega arith
 joined_exact w b (x ∷ xs) h =
     let ih = joined_exact w b xs h.1 in
@@ -84,7 +84,7 @@ state_most n ten s h =
     let l = state_length s in
     let c = commit_most n ten s.commit h.commit_right in
     let p = prepared_length (listed s.prepared) in
-    let each : All (λ c. length (certificate_bytes c) ≤ 96) (listed s.prepared) =
+    let each : AllByRecursion (λ c. length (certificate_bytes c) ≤ 96) (listed s.prepared) =
     All-weaker (RightCertificate n) (λ c. length (certificate_bytes c) ≤ 96)
     (λ c r. let k = certificates.certificate_length n c r in omega arith) (listed s.prepared) h.prepared_right in
     let j = joined_most certificate_bytes 96 (listed s.prepared) each in
@@ -143,7 +143,7 @@ big_request_right = record {
     z : 0 < 256
     z = omega arith
 
-    zeros : All (λ b. b < 256) (replicate 16 0)
+    zeros : AllByRecursion (λ b. b < 256) (replicate 16 0)
     zeros = (z, (z, (z, (z, (z, (z, (z, (z, (z, (z, (z, (z, (z, (z, (z, (z, tt))))))))))))))))
 
 big_certificate_right : RightCertificate 10 big_certificate
@@ -193,7 +193,7 @@ big_commit_length =
 big_state_length : length (state_bytes big_state) ≡ 881
 big_state_length =
     let k = certificates.certificate_length 10 big_certificate big_certificate_right in
-    let e : All (λ c. length (certificate_bytes c) ≡ 96) (replicate 8 big_certificate) = (k, (k, (k, (k, (k, (k, (k, (k, tt)))))))) in
+    let e : AllByRecursion (λ c. length (certificate_bytes c) ≡ 96) (replicate 8 big_certificate) = (k, (k, (k, (k, (k, (k, (k, (k, tt)))))))) in
     let j = joined_exact certificate_bytes 96 (replicate 8 big_certificate) e in
     let p = prepared_length (replicate 8 big_certificate) in
     let c = big_commit_length in
@@ -203,7 +203,7 @@ big_state_length =
 pub view_largest : ViewLargest
 view_largest =
     let k = big_state_length in
-    let e : All (λ s. length (state_bytes s) ≡ 881) (replicate 7 big_state) = (k, (k, (k, (k, (k, (k, (k, tt))))))) in
+    let e : AllByRecursion (λ s. length (state_bytes s) ≡ 881) (replicate 7 big_state) = (k, (k, (k, (k, (k, (k, (k, tt))))))) in
     let j = joined_exact state_bytes 881 (replicate 7 big_state) e in
     let l = new_view_length big_view in
     (big_view, big_view_right, omega (arith, j, l))

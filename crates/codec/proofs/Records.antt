@@ -1,7 +1,7 @@
 -- Whole records behind their marks: what is read stands there from the first byte on, and what stands there is read.
 -- Assumes nothing.
 use Rattle.std.proofs.Common.{◌≡◌, ℕ, ◌+◌, ◌<◌, ◌≤◌, eqb, List, ◌++◌, length, Ok, Result, sym, refl, ap, ◌∙◌, subst, zero-add, arith, length-append}
-use Rattle.std.specs.List.{flat_map, AllByRecursion as All}
+use Rattle.std.specs.List.{flat_map, AllByRecursion}
 use Rattle.std.proofs.lemmas.List.{append_assoc}
 use Rattle.std.proofs.lemmas.Bool.{eqb-true, eq-eqb}
 use Rattle.quorum.specs.declared.refusal.Fault.{Fault}
@@ -190,7 +190,7 @@ view_length sender view ss =
 -- the view states of a new view, in range
 abbrev RightMembers : ℕ → ℕ → Few ViewState 7 → Type 0
 RightMembers n count few =
-    Packed blank_state 7 few × (length (listed few) ≡ count) × All (RightState n) (listed few)
+    Packed blank_state 7 few × (length (listed few) ≡ count) × AllByRecursion (RightState n) (listed few)
 
 members_back : (n : ℕ) → n ≤ 10 → (bs : List ℕ) → Bytes bs → (at count : ℕ) (few : Few ViewState 7) (end : ℕ) → at ≤ length bs → members_at n bs at count ≡ Ok (few, end) → Got bs at (λ few. flat_map state_bytes (listed few)) (RightMembers n count) (few, end)
 members_back n ten bs all at count few end room e =
@@ -202,7 +202,7 @@ members_back n ten bs all at count few end room e =
       (
         ap (filled blank_state 7) (sym same),
         ap length same ∙ row.many,
-        subst (All (RightState n)) (sym same) (row_all (RightState n) blank_state count ss.0 row),
+        subst (AllByRecursion (RightState n)) (sym same) (row_all (RightState n) blank_state count ss.0 row),
       ),
       stands_same (ap (flat_map state_bytes) (sym same)) r.1,
       r.2 ∙ ap (λ l. at + length (flat_map state_bytes l)) (sym same),
@@ -255,7 +255,7 @@ new_view_on : (n : ℕ) → n ≤ 10 → (bs : List ℕ) (v : NewView) → Right
 unfolding arrival_bytes body_bytes new_view_body check_commit_body failure_body states_bytes
 new_view_on n ten bs v h s = go (listed v.states) h.states_packed h.states_many h.states_right s
   where
-    go : (ss : List ViewState) → v.states ≡ filled blank_state 7 ss → length ss ≡ quorum_of n → All (RightState n) ss → Stands bs 0 (view_body v.sender v.view ss ++ put 8 v.seal) → Stands bs 0 (mark_bytes mark.NewView) × (arrival_behind n bs mark.NewView ≡ Ok (arrival.NewView v, length (view_body v.sender v.view ss ++ put 8 v.seal)))
+    go : (ss : List ViewState) → v.states ≡ filled blank_state 7 ss → length ss ≡ quorum_of n → AllByRecursion (RightState n) ss → Stands bs 0 (view_body v.sender v.view ss ++ put 8 v.seal) → Stands bs 0 (mark_bytes mark.NewView) × (arrival_behind n bs mark.NewView ≡ Ok (arrival.NewView v, length (view_body v.sender v.view ss ++ put 8 v.seal)))
     go ss packed many right st =
         let l₄ = put_length 4 v.view in
         let l₁ = put_length 1 (length ss) in

@@ -1,6 +1,6 @@
 -- Values that stand one after another: what each reading keeps, reading several of them keeps. Assumes nothing.
 use Rattle.std.proofs.Common.{◌≡◌, ℕ, zero, suc, ◌+◌, ◌<◌, ◌≤◌, List, [], ◌∷◌, ◌++◌, length, get_or, take, Ok, Result, sym, refl, ap, ◌∙◌, subst, ⊎_elim, add-zero, arith, length-append}
-use Rattle.std.specs.List.{flat_map, AllByRecursion as All}
+use Rattle.std.specs.List.{flat_map, AllByRecursion}
 use Rattle.std.proofs.lemmas.List.{length_push, get_or_push, get_or_append_left, get_or-take, flat_map_more, nil_from_length, length-take-le}
 use Rattle.std.proofs.ByRecursion.{All-get_or, All-from_get_or}
 use Rattle.std.proofs.lemmas.Bool.{cases_lt}
@@ -88,8 +88,8 @@ several_on {A} bs read w Right on d (suc k) at xs r s =
     then_on _ ih (then_on _ last (cc))
 
 -- a row that is right by the value alone
-pub row_all : {A : Type 0} (Right : A → Type 0) (d : A) (k : ℕ) (xs : List A) → Row (λ i. Right) k xs → All Right xs
+pub row_all : {A : Type 0} (Right : A → Type 0) (d : A) (k : ℕ) (xs : List A) → Row (λ i. Right) k xs → AllByRecursion Right xs
 row_all Right d k xs r = All-from_get_or Right xs d (λ i l. r.each i d (subst (λ m. i < m) r.many l))
 
-pub all_row : {A : Type 0} (Right : A → Type 0) (k : ℕ) (xs : List A) → length xs ≡ k → All Right xs → Row (λ i. Right) k xs
+pub all_row : {A : Type 0} (Right : A → Type 0) (k : ℕ) (xs : List A) → length xs ≡ k → AllByRecursion Right xs → Row (λ i. Right) k xs
 all_row Right k xs h all = record { many = h; each = λ i d l. All-get_or Right xs i d (subst (λ m. i < m) (sym h) l) all }

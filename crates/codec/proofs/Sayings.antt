@@ -1,6 +1,6 @@
 -- What seals cover: the bytes of a statement say one thing, and they come first in their record. Assumes nothing.
 use Rattle.std.proofs.Common.{◌≡◌, ℕ, ◌+◌, ◌≤◌, List, ◌++◌, length, take, Ok, Result, sym, refl, ap, ◌∙◌, arith, length-append}
-use Rattle.std.specs.List.{flat_map, AllByRecursion as All}
+use Rattle.std.specs.List.{flat_map, AllByRecursion}
 use Rattle.std.proofs.lemmas.List.{append_assoc, take_at, take_all}
 use Rattle.quorum.specs.declared.refusal.Fault.{Fault}
 use Rattle.quorum.specs.Figures.{quorum_of}
@@ -95,7 +95,7 @@ said_on n ten bs (alerts i view) h s =
     (then_on _ (number_on 4 bs 3 view h.1 t.2) refl))
 said_on n ten bs (leaves i view commit cs) h s = go h.1.1.0 h.1.1.1.0 h.1.1.1.1 s
   where
-    go : RightCommit n commit → length cs ≤ 8 → All (RightCertificate n) cs → Stands bs 0 (head_bytes mark.ViewState i ++ (put 4 view ++ (commit_bytes commit ++ prepared_bytes cs))) → said_of n bs ≡ Ok (leaves i view commit cs)
+    go : RightCommit n commit → length cs ≤ 8 → AllByRecursion (RightCertificate n) cs → Stands bs 0 (head_bytes mark.ViewState i ++ (put 4 view ++ (commit_bytes commit ++ prepared_bytes cs))) → said_of n bs ≡ Ok (leaves i view commit cs)
     go right few all st =
         let c : List ℕ = commit_bytes commit in
         let js : List ℕ = flat_map certificate_bytes cs in

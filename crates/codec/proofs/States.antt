@@ -1,6 +1,6 @@
 -- View states: a commit certificate or none, and the prepared ones above it. Assumes nothing.
 use Rattle.std.proofs.Common.{◌≡◌, ℕ, zero, suc, ◌+◌, ◌-◌, ◌≤◌, cond, eqb, leb, List, ◌++◌, length, replicate, Some, None, Ok, Option, Result, sym, refl, ap, subst, arith, length-append}
-use Rattle.std.specs.List.{flat_map, AllByRecursion as All}
+use Rattle.std.specs.List.{flat_map, AllByRecursion}
 use Rattle.std.proofs.lemmas.List.{take_at}
 use Rattle.std.proofs.lemmas.Bool.{eqb-true, leb-true, le-leb}
 use Rattle.quorum.specs.declared.refusal.Fault.{Fault}
@@ -62,7 +62,7 @@ commit_on n ten bs at (Some c) h s =
 -- the prepared certificates of a view state, in range
 abbrev pub RightPrepared : ℕ → Few Certificate 8 → Type 0
 RightPrepared n few =
-    Packed blank_certificate 8 few × (length (listed few) ≤ 8) × All (RightCertificate n) (listed few)
+    Packed blank_certificate 8 few × (length (listed few) ≤ 8) × AllByRecursion (RightCertificate n) (listed few)
 
 abbrev pub few_bytes : Few Certificate 8 → List ℕ
 few_bytes few = prepared_bytes (listed few)
@@ -87,7 +87,7 @@ prepared_back n ten bs all at few end e =
       (
         ap (filled blank_certificate 8) (sym same),
         subst (λ l. length l ≤ 8) (sym same) (omega (arith, leb-true count 8 low)),
-        subst (All (RightCertificate n)) (sym same) (row_all (RightCertificate n) blank_certificate count cs.0 row),
+        subst (AllByRecursion (RightCertificate n)) (sym same) (row_all (RightCertificate n) blank_certificate count cs.0 row),
       ),
       stands_same (ap prepared_bytes (sym same)) (stands_join front r.1 (omega arith)),
       subst (λ l. cs.1 ≡ at + length (prepared_bytes l)) (sym same) (omega (arith, r.2)),
@@ -97,7 +97,7 @@ prepared_on : (n : ℕ) → n ≤ 10 → (bs : List ℕ) (at : ℕ) (few : Few C
 unfolding prepared_bytes
 prepared_on n ten bs at few h s = go (listed few) h.0 h.1 h.2 s
   where
-    go : (cs : List Certificate) → few ≡ filled blank_certificate 8 cs → length cs ≤ 8 → All (RightCertificate n) cs → Stands bs at (prepared_bytes cs) → prepared_at n bs at ≡ Ok (few, at + length (prepared_bytes cs))
+    go : (cs : List Certificate) → few ≡ filled blank_certificate 8 cs → length cs ≤ 8 → AllByRecursion (RightCertificate n) cs → Stands bs at (prepared_bytes cs) → prepared_at n bs at ≡ Ok (few, at + length (prepared_bytes cs))
     go cs packed low right s =
         let l₁ = put_length 1 (length cs) in
         let m = length-append (put 1 (length cs)) (flat_map certificate_bytes cs) in

@@ -1,6 +1,6 @@
 -- The fields of a record that lie in range: what may be written, and what reading gives.
 use Rattle.std.specs.Prelude.{◌≡◌, ℕ, ◌+◌, ◌^◌, ◌<◌, ◌≤◌, cond, List, [], ◌∷◌, length, is_some, Some, None, Option, slice_index_or}
-use Rattle.std.specs.List.{AllByRecursion as All}
+use Rattle.std.specs.List.{AllByRecursion}
 use Rattle.quorum.specs.Figures.{quorum_of}
 use Rattle.records.specs.Lists.{listed, filled}
 use Rattle.records.specs.Blanks.{blank_certificate, blank_state}
@@ -22,7 +22,7 @@ abbrev pub Byte : ℕ → Type 0
 Byte b = b < 256
 
 abbrev pub Bytes : List ℕ → Type 0
-Bytes bs = All Byte bs
+Bytes bs = AllByRecursion Byte bs
 
 abbrev pub Fits : ℕ → ℕ → Type 0
 Fits k n = n < 256 ^ k
@@ -55,7 +55,7 @@ seals_there (seal ∷ seals) = cond (is_some seal) 1 0 + seals_there seals
 pub record RightCertificate (n : ℕ) (c : Certificate) : Type 0 where
   pub proposal_right : RightProposal c.proposal
   pub ten : length c.seals ≡ 10
-  pub seals_right : All RightSeal c.seals
+  pub seals_right : AllByRecursion RightSeal c.seals
   pub quorate : seals_there c.seals ≡ quorum_of n
   pub inside : (i : ℕ) → n ≤ i → slice_index_or c.seals i None ≡ None
 
@@ -73,7 +73,7 @@ pub record RightState (n : ℕ) (s : ViewState) : Type 0 where
   pub commit_right : RightCommit n s.commit
   pub prepared_packed : Packed blank_certificate 8 s.prepared
   pub prepared_few : length (listed s.prepared) ≤ 8
-  pub prepared_right : All (RightCertificate n) (listed s.prepared)
+  pub prepared_right : AllByRecursion (RightCertificate n) (listed s.prepared)
   pub seal_fits : Fits 8 s.seal
 
 pub record RightNewView (n : ℕ) (v : NewView) : Type 0 where
@@ -82,7 +82,7 @@ pub record RightNewView (n : ℕ) (v : NewView) : Type 0 where
   pub view_high : v.view ≤ last_view
   pub states_packed : Packed blank_state 7 v.states
   pub states_many : length (listed v.states) ≡ quorum_of n
-  pub states_right : All (RightState n) (listed v.states)
+  pub states_right : AllByRecursion (RightState n) (listed v.states)
   pub seal_fits : Fits 8 v.seal
 
 -- a sender, a proposal and a seal

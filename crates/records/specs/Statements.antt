@@ -1,6 +1,6 @@
 -- What a seal says: the kind of its record, and the fields that it covers.
 use Rattle.std.specs.Prelude.{◌≡◌, ℕ, ◌≤◌, List, [], ◌++◌, length, Option}
-use Rattle.std.specs.List.{AllByRecursion as All}
+use Rattle.std.specs.List.{AllByRecursion}
 use Rattle.quorum.specs.Figures.{quorum_of}
 use Rattle.records.specs.Lists.{listed}
 use Rattle.records.specs.Numbers.{put}
@@ -111,6 +111,6 @@ RightStatement n (checks i p) = Byte i × RightProposal p
 RightStatement n (informs i p result) = Byte i × (RightProposal p × Fits 8 result)
 RightStatement n (alerts i view) = Byte i × Fits 4 view
 RightStatement n (leaves i view commit cs) =
-    Byte i × (Fits 4 view × (RightCommit n commit × ((length cs ≤ 8) × All (RightCertificate n) cs)))
+    Byte i × (Fits 4 view × (RightCommit n commit × ((length cs ≤ 8) × AllByRecursion (RightCertificate n) cs)))
 RightStatement n (begins i view ss) =
-    Byte i × (Fits 4 view × ((length ss ≡ quorum_of n) × All (RightState n) ss))
+    Byte i × (Fits 4 view × ((length ss ≡ quorum_of n) × AllByRecursion (RightState n) ss))

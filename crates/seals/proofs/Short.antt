@@ -1,6 +1,6 @@
 -- No statement in a record that is read is out of the code's reach. Assumes nothing.
 use Rattle.std.proofs.Common.{◌≡◌, ℕ, ◌+◌, ◌-◌, ◌≤◌, Bool, cond, ◌&&◌, ltb, List, [], ◌∷◌, ◌++◌, length, Some, None, Ok, Err, Option, Result, sym, refl, ap, ◌∙◌, arith, length-append}
-use Rattle.std.specs.List.{AllByRecursion as All}
+use Rattle.std.specs.List.{AllByRecursion}
 use Rattle.std.proofs.lemmas.Bool.{le-leb}
 use Rattle.quorum.specs.declared.refusal.Fault.{Fault}
 use Rattle.quorum.specs.declared.refusal.Fault.TheVariants.{WrongSender}
@@ -35,14 +35,14 @@ abbrev Short : Tried → Type 0
 Short t = length (said_bytes t.said) ≤ 6175
 
 -- what is in reach is asked
-pub reach_same : (g : ℕ → List ℕ → ℕ → Bool) (ts : List Tried) → All Short ts → first_false (in_reach g) ts ≡ first_false g ts
+pub reach_same : (g : ℕ → List ℕ → ℕ → Bool) (ts : List Tried) → AllByRecursion Short ts → first_false (in_reach g) ts ≡ first_false g ts
 reach_same g [] h = refl
 reach_same g (t ∷ ts) h =
     let near : in_reach g t.signer (said_bytes t.said) t.tag ≡ g t.signer (said_bytes t.said) t.tag = ap (λ b. b && g t.signer (said_bytes t.said) t.tag) (le-leb (length (said_bytes t.said)) 6175 h.0) in
     let rest = reach_same g ts h.1 in
     rw (near, rest)
 
-all_append : (xs ys : List Tried) → All Short xs → All Short ys → All Short (xs ++ ys)
+all_append : (xs ys : List Tried) → AllByRecursion Short xs → AllByRecursion Short ys → AllByRecursion Short (xs ++ ys)
 all_append [] ys h k = k
 all_append (x ∷ xs) ys h k = (h.0, all_append xs ys h.1 k)
 
@@ -63,23 +63,23 @@ check_short : (m : ℕ) (p : Proposal) → RightProposal p → length (said_byte
 unfolding said_bytes
 check_short m p r = let l = claim_length mark.CheckCommit m p r in omega arith
 
-quorum_short : (says : ℕ → Proposal → Statement) (p : Proposal) → ((i : ℕ) → length (said_bytes (says i p)) ≤ 6175) → (i at : ℕ) (seals : List (Option ℕ)) → All Short (quorum_seals says p i at seals)
+quorum_short : (says : ℕ → Proposal → Statement) (p : Proposal) → ((i : ℕ) → length (said_bytes (says i p)) ≤ 6175) → (i at : ℕ) (seals : List (Option ℕ)) → AllByRecursion Short (quorum_seals says p i at seals)
 quorum_short says p h i at [] = tt
 quorum_short says p h i at (None ∷ seals) = quorum_short says p h (i + 1) at seals
 quorum_short says p h i at (Some tag ∷ seals) = (h i, quorum_short says p h (i + 1) (at + 8) seals)
 
-prepared_short : (n at : ℕ) (cs : List Certificate) → All (RightCertificate n) cs → All Short (prepared_seals n at cs)
+prepared_short : (n at : ℕ) (cs : List Certificate) → AllByRecursion (RightCertificate n) cs → AllByRecursion Short (prepared_seals n at cs)
 prepared_short n at [] h = tt
 prepared_short n at (c ∷ cs) h =
     all_append (certificate_seals prepares at c) (prepared_seals n (at + certificate_size n) cs)
     (quorum_short prepares c.proposal (λ i. claim_short i c.proposal h.0.proposal_right) 0 (at + 40) c.seals)
     (prepared_short n (at + certificate_size n) cs h.1)
 
-commit_short : (n at : ℕ) (o : Option Certificate) → RightCommit n o → All Short (commit_seals at o)
+commit_short : (n at : ℕ) (o : Option Certificate) → RightCommit n o → AllByRecursion Short (commit_seals at o)
 commit_short n at None h = tt
 commit_short n at (Some c) h = quorum_short checks c.proposal (λ i. check_short i c.proposal h.proposal_right) 0 (at + 1 + 40) c.seals
 
-state_short : (n at : ℕ) (s : ViewState) → RightState n s → All Short (state_seals n at s)
+state_short : (n at : ℕ) (s : ViewState) → RightState n s → AllByRecursion Short (state_seals n at s)
 state_short n at s h =
     all_append (commit_seals (at + 7) s.commit) (prepared_seals n (after_commit n (at + 7) s.commit + 1) (listed s.prepared))
     (commit_short n (at + 7) s.commit h.commit_right)
@@ -92,7 +92,7 @@ says_short n few s h =
     let l = less_seal (rec.Arrival (arrival.ViewState s)) 873 m in
     omega arith
 
-states_short : (n : ℕ) → n ≤ 10 → (at : ℕ) (ss : List ViewState) → All (RightState n) ss → All Short (states_seals n at ss)
+states_short : (n : ℕ) → n ≤ 10 → (at : ℕ) (ss : List ViewState) → AllByRecursion (RightState n) ss → AllByRecursion Short (states_seals n at ss)
 states_short n few at [] h = tt
 states_short n few at (s ∷ ss) h =
     all_append (state_seals n at s) _ (state_short n at s h.0)
@@ -116,7 +116,7 @@ own_short n some few (arrival.NewView v) h =
     let m = view_most n some few v h in
     less_seal (rec.Arrival (arrival.NewView v)) 6175 m
 
-inner_short : (n : ℕ) → n ≤ 10 → (a : Arrival) → RightArrival n a → All Short (inner_of n a)
+inner_short : (n : ℕ) → n ≤ 10 → (a : Arrival) → RightArrival n a → AllByRecursion Short (inner_of n a)
 inner_short n few (arrival.Propose p) h = (request_short p.proposal.request h.proposal_right.request_right, tt)
 inner_short n few (arrival.Prepare p) h = tt
 inner_short n few (arrival.CheckCommit c) h = quorum_short prepares c.prepared.proposal (λ i. claim_short i c.prepared.proposal h.prepared_right.proposal_right) 0 43 c.prepared.seals
