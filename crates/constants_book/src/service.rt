@@ -37,7 +37,7 @@ impl Service for ConstantsBook {
 
     ghost step = { stepped };
 
-    ghost answer = { answer };
+    ghost result_of = { answer };
 
     ghost undoes = { Undoes };
 

@@ -1,4 +1,4 @@
--- The limits of the rules and of the format, each by one name; src/limits.rt has the same numbers.
+-- The limits of the rules and of the format, each by one name; src/limits.rt and src/figures/counts.rt have the same numbers.
 use Rattle.std.specs.Prelude.{ℕ}
 
 -- a ring has at most so many stations

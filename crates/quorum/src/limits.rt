@@ -1,4 +1,5 @@
-// The limits of the rules and of the format, each by one name; `specs/Limits.antt` has the same numbers.
+// The limits of the rules and of the format, each by one name. `specs/Limits.antt` has the same numbers for
+// definitions; the most stations are `MOST_STATIONS` of `figures::counts`.
 
 // The numbers of clients begin here.
 pub const FIRST_CLIENT: u16 = 1_000;

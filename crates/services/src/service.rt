@@ -7,7 +7,7 @@ ghost use Rattle.services.specs.declared.slip.Slip.{Slip};
 use crate::slip::Slip;
 use payload::Payload;
 
-/// A service means a state. `step` and `answer` are fixed by state and payload, whatever holds the state.
+/// A service means a state. `step` and `result_of` are fixed by state and payload, whatever holds the state.
 /// `undoes s p slip`: the slip is one that undoes the step by `p` from the state `s`.
 pub trait Service {
     ghost State: { Type 0 };
@@ -16,14 +16,14 @@ pub trait Service {
 
     ghost step: { State → Payload → State };
 
-    ghost answer: { State → Payload → ℕ };
+    ghost result_of: { State → Payload → ℕ };
 
     ghost undoes: { State → Payload → Slip → Type 0 };
 
     /// One step: the result, with a slip that undoes it. Any payload is taken.
     fn apply(&mut self, payload: &Payload) -> (u64, Slip)
         ensures steps { state self.new ≡ step (state self.old) payload.now }
-        ensures answers { result.0 ≡ answer (state self.old) payload.now }
+        ensures answers { result.0 ≡ result_of (state self.old) payload.now }
         ensures slips { undoes (state self.old) payload.now result.1 };
 
     /// From the state that a step left, with a slip that undoes the step: exactly the state before it. Any other
@@ -34,7 +34,7 @@ pub trait Service {
 
 /// Applies a payload and undoes it: the result that was given, and the service as it was.
 pub fn apply_and_undo<S: Service>(service: &mut S, payload: &Payload) -> u64
-    ensures answers { result ≡ S.answer (S.state service.old) payload.now }
+    ensures answers { result ≡ S.result_of (S.state service.old) payload.now }
     ensures back { S.state service.new ≡ S.state service.old }
 {
     let (result, slip) = service.apply(payload);

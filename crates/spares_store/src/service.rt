@@ -38,7 +38,7 @@ impl Service for SparesStore {
 
     ghost step = { stepped };
 
-    ghost answer = { answer };
+    ghost result_of = { answer };
 
     ghost undoes = { Undoes };
 
