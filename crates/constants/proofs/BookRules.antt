@@ -1,49 +1,45 @@
 -- The rules of every book of constants.
-use Rattle.std.proofs.Common.{◌≡◌, ℕ, ◌^◌, ◌<◌, ◌≤◌, Bool, true, false, cond, ◌⊎◌, take, drop, ℤ, nat_abs, is_some, Some, None, Option, sym, refl, ap, ◌∙◌, subst, inl, inr, ⊎_elim, arith}
+use Rattle.std.proofs.Common.{◌≡◌, ℕ, ◌^◌, ◌<◌, ◌≤◌, Bool, true, false, cond, ◌⊎◌, take, drop, ℤ, nat_abs, Some, None, Option, Ok, Err, Result, sym, refl, ap, ◌∙◌, subst, inl, inr, ⊎_elim, arith}
 use Rattle.constants.proofs.Counting.{held_written}
 use Rattle.constants.specs.Books.{Book, Sound, written, held, outcome, settled, carried_out}
 use Rattle.constants.specs.Commands.{command_of, marked, number_at, offset_bits, serial_in}
-use Rattle.constants.specs.Outcomes.{number}
 use Rattle.constants.specs.Ranges.{InRange}
+use Rattle.constants.specs.Results.{number}
 use Rattle.constants.specs.Rules.{BookRules}
 use Rattle.constants.specs.declared.command.Command.{Command}
 use Rattle.constants.specs.declared.command.Command.TheVariants.{Set, Clear}
-use Rattle.constants.specs.declared.outcome.Outcome.{Outcome}
-use Rattle.constants.specs.declared.outcome.Outcome.TheVariants.{Done, NoPlace, WrongPayload, Absent}
+use Rattle.constants.specs.declared.former.Former.{Former}
+use Rattle.constants.specs.declared.refusal.Refusal.{Refusal}
+use Rattle.constants.specs.declared.refusal.Refusal.TheVariants.{NoPlace, WrongPayload, Absent}
 use Rattle.services.specs.Zeros.{all_zero}
 use Rattle.std.proofs.lemmas.Bool.{cases_eq}
 use Rattle.std.proofs.lemmas.Bool.Decides.{nat_tests}
 
-unchanged_by : (f : Book) (c : Command) (x : Outcome) → (number x ≡ 0 → ⊥) → settled f c x ≡ f
-unchanged_by f c Done h = absurd (h refl)
-unchanged_by f c NoPlace h = refl
-unchanged_by f c WrongPayload h = refl
-unchanged_by f c Absent h = refl
+unchanged_by : (f : Book) (c : Command) (r : Result Former Refusal) → (number r ≡ 0 → ⊥) → settled f c r ≡ f
+unchanged_by f c (Ok former) h = absurd (h refl)
+unchanged_by f c (Err refusal) h = refl
 
 unchanged : (f : Book) (o : Option Command) → (number (outcome f o) ≡ 0 → ⊥) → carried_out f o ≡ f
 unchanged f None h = refl
 unchanged f (Some c) h = unchanged_by f c (outcome f (Some c)) h
 
-set_by : (f : Book) (s : ℕ) (o : ℤ) (x : Outcome) → number x ≡ 0 → settled f (Set s o) x s ≡ Some o
-set_by f s o Done h = grind (arith, nat_tests)
-set_by f s o NoPlace h = absurd (omega arith)
-set_by f s o WrongPayload h = absurd (omega arith)
-set_by f s o Absent h = absurd (omega arith)
+set_by : (f : Book) (s : ℕ) (o : ℤ) (r : Result Former Refusal) → number r ≡ 0 → settled f (Set s o) r s ≡ Some o
+set_by f s o (Ok former) h = grind (arith, nat_tests)
+set_by f s o (Err NoPlace) h = absurd (omega arith)
+set_by f s o (Err WrongPayload) h = absurd (omega arith)
+set_by f s o (Err Absent) h = absurd (omega arith)
 
-cleared_by : (f : Book) (s : ℕ) (line : Option ℤ) → f s ≡ line → settled f (Clear s) (cond (is_some line) Done Absent) s ≡ None
-cleared_by f s None e = e
-cleared_by f s (Some o) e = grind (arith, nat_tests)
+cleared_by : (f : Book) (s : ℕ) → carried_out f (Some (Clear s)) s ≡ None
+cleared_by f s = grind (arith, nat_tests)
 
-others_by : (f : Book) (c : Command) (x : Outcome) (q : ℕ) → (q ≡ serial_in c → ⊥) → settled f c x q ≡ f q
-others_by f c Done q h = grind (arith, nat_tests)
-others_by f c NoPlace q h = refl
-others_by f c WrongPayload q h = refl
-others_by f c Absent q h = refl
+others_by : (f : Book) (c : Command) (r : Result Former Refusal) (q : ℕ) → (q ≡ serial_in c → ⊥) → settled f c r q ≡ f q
+others_by f c (Ok former) q h = grind (arith, nat_tests)
+others_by f c (Err refusal) q h = refl
 
-too_far_by : (f : Book) (s : ℕ) (o : ℤ) → 20000 < nat_abs o → outcome f (Some (Set s o)) ≡ WrongPayload
+too_far_by : (f : Book) (s : ℕ) (o : ℤ) → 20000 < nat_abs o → outcome f (Some (Set s o)) ≡ Err WrongPayload
 too_far_by f s o h = grind (arith, nat_tests)
 
-clear_with_by : (b : Bool) (serial bits : ℕ) (f : Book) → (bits ≡ 0 → ⊥) → outcome f (cond b (marked 2 serial bits) None) ≡ WrongPayload
+clear_with_by : (b : Bool) (serial bits : ℕ) (f : Book) → (bits ≡ 0 → ⊥) → outcome f (cond b (marked 2 serial bits) None) ≡ Err WrongPayload
 clear_with_by true serial bits f h = grind (arith, nat_tests)
 clear_with_by false serial bits f h = refl
 
@@ -70,27 +66,24 @@ sound_written f s line fits sound r few = record { few = few; ranged = ranged; s
         (λ (w : written f s line q ≡ f q). w ∙ sound.serials q h) (at q)
 
 few_set :
-    (f : Book) (s : ℕ) (o : ℤ) → s < 2 ^ 32 → held f ≤ 64 → outcome f (Some (Set s o)) ≡ Done
+    (f : Book) (s : ℕ) (o : ℤ) (former : Former) → s < 2 ^ 32 → held f ≤ 64 → outcome f (Some (Set s o)) ≡ Ok former
     → InRange o × (held (written f s (Some o)) ≤ 64)
-few_set f s o fits few e =
+few_set f s o former fits few e =
     let counted = held_written f s (2 ^ 32) (Some o) fits in
     (grind (arith, nat_tests), grind (arith, nat_tests))
 
 few_clear : (f : Book) (s : ℕ) → s < 2 ^ 32 → held f ≤ 64 → held (written f s None) ≤ 64
 few_clear f s fits few = let counted = held_written f s (2 ^ 32) None fits in omega arith
 
-sound_by : (f : Book) (c : Command) (x : Outcome) → serial_in c < 2 ^ 32 → Sound f → outcome f (Some c) ≡ x → Sound (settled f c x)
-sound_by f (Set s o) Done fits sound e =
-    let h = few_set f s o fits sound.few e in
+sound_by :
+    (f : Book) (c : Command) (r : Result Former Refusal) → serial_in c < 2 ^ 32 → Sound f → outcome f (Some c) ≡ r
+    → Sound (settled f c r)
+sound_by f c (Err refusal) fits sound e = sound
+sound_by f (Set s o) (Ok former) fits sound e =
+    let h = few_set f s o former fits sound.few e in
     sound_written f s (Some o) fits sound (λ o' (same : Some o ≡ Some o'). let eq : o ≡ o' = cc in subst InRange eq h.0) h.1
-sound_by f (Clear s) Done fits sound e =
+sound_by f (Clear s) (Ok former) fits sound e =
     sound_written f s None fits sound (λ o' (same : None ≡ Some o'). absurd (grind arith)) (few_clear f s fits sound.few)
-sound_by f (Set s o) NoPlace fits sound e = sound
-sound_by f (Clear s) NoPlace fits sound e = sound
-sound_by f (Set s o) WrongPayload fits sound e = sound
-sound_by f (Clear s) WrongPayload fits sound e = sound
-sound_by f (Set s o) Absent fits sound e = sound
-sound_by f (Clear s) Absent fits sound e = sound
 
 pub book_rules : BookRules
 book_rules =
@@ -98,7 +91,7 @@ book_rules =
       unchanged = λ f p h. unchanged f (command_of p) h;
       set_there = λ f p s o e h.
           rw e (set_by f s o (outcome f (Some (Set s o))) (rw e at h));
-      cleared_there = λ f p s e. rw e (cleared_by f s (f s) refl);
+      cleared_there = λ f p s e. rw e (cleared_by f s);
       others = λ f p c q e h. rw e (others_by f c (outcome f (Some c)) q h);
       too_far = λ f p s o e h. rw e (ap number (too_far_by f s o h));
       clear_with_offset = λ f p m h.

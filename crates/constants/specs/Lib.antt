@@ -1,5 +1,5 @@
 pub mod Commands
-pub mod Outcomes
+pub mod Results
 pub mod Ranges
 pub mod Slips
 pub mod Books

@@ -6,11 +6,11 @@ mod command;
 mod entries;
 mod entry;
 mod former;
-mod outcome;
+mod refusal;
 mod rules;
 
 pub use command::Command;
 pub use entry::Entry;
 pub use former::Former;
-pub use outcome::Outcome;
+pub use refusal::{DONE, Refusal};
 pub use rules::book_rules;

@@ -1,5 +1,5 @@
 -- The book's places, and what they mean: the first entry with a serial has its offset.
-use Rattle.std.specs.Prelude.{◌≡◌, ℕ, suc, Bool, true, cond, not, ◌&&◌, List, [], ◌∷◌, is_some, Some, None, Option, ◌==◌}
+use Rattle.std.specs.Prelude.{◌≡◌, ℕ, suc, ◌<◌, Bool, true, cond, not, ◌&&◌, List, [], ◌∷◌, length, is_some, Some, None, Option, ◌==◌, slice_index_or}
 use Rattle.constants.specs.Books.{Book}
 use Rattle.constants.specs.declared.entry.Entry.{Entry}
 
@@ -19,6 +19,10 @@ abbrev pub taken : List (Option Entry) → ℕ
 taken [] = 0
 taken (None ∷ places) = taken places
 taken (Some e ∷ places) = suc (taken places)
+
+-- the place i is one of these, and P holds of what it has
+abbrev pub Holds : List (Option Entry) → (Option Entry → Type 0) → ℕ → Type 0
+Holds places P i = (i < length places) × P (slice_index_or places i None)
 
 -- a place with an entry of this serial
 abbrev pub OfSerial : ℕ → Option Entry → Type 0

@@ -3,15 +3,15 @@
 ghost use Rattle.constants.specs.Books.{Carried};
 ghost use Rattle.constants.specs.declared.command.Command.TheVariants.{Clear, Set};
 ghost use Rattle.constants_book.specs.Places.{meaning};
+ghost use Rattle.std.specs.Prelude.{Some};
 
 use crate::book::ConstantsBook;
-use crate::places::{place_for, place_of};
-use constants::{Command, Entry, Former, Outcome};
+use constants::{Command, Entry, Former, Refusal};
 
 impl ConstantsBook {
-    /// Carries out a command: what comes of it, and what undoing it has to know.
-    pub(crate) fn carry_out(&mut self, command: Command) -> (Outcome, Former)
-        ensures { Carried (meaning self.old.places) command result.0 result.1 (meaning self.new.places) }
+    /// Carries out a command, or says why not.
+    pub(crate) fn carry_out(&mut self, command: Command) -> Result<Former, Refusal>
+        ensures { Carried (meaning self.old.places) (Some command) result (meaning self.new.places) }
     {
         match command {
             Command::Set { serial, offset } => self.set(serial, offset),
@@ -19,28 +19,23 @@ impl ConstantsBook {
         }
     }
 
-    fn set(&mut self, serial: u32, offset: i32) -> (Outcome, Former)
-        ensures { Carried (meaning self.old.places) (Set serial offset) result.0 result.1 (meaning self.new.places) }
+    fn set(&mut self, serial: u32, offset: i32) -> Result<Former, Refusal>
+        ensures { Carried (meaning self.old.places) (Some (Set serial offset)) result (meaning self.new.places) }
     {
-        let Some(entry) = Entry::new(serial, offset) else {
-            return (Outcome::WrongPayload, Former::Unchanged);
-        };
-        let Some(place) = place_for(&self.places, serial) else {
-            return (Outcome::NoPlace, Former::Unchanged);
-        };
-        let former = Former::of_entry(self.places[place]);
+        let entry = Entry::new(serial, offset).ok_or(Refusal::WrongPayload)?;
+        let place = self.place_for(serial).ok_or(Refusal::NoPlace)?;
+        let former = self.places[place];
         self.places[place] = Some(entry);
-        (Outcome::Done, former)
+        Ok(former.into())
     }
 
-    fn clear(&mut self, serial: u32) -> (Outcome, Former)
-        ensures { Carried (meaning self.old.places) (Clear serial) result.0 result.1 (meaning self.new.places) }
+    #[tactic(auto, using(crate::proofs::Carrying::clear_done))]
+    fn clear(&mut self, serial: u32) -> Result<Former, Refusal>
+        ensures { Carried (meaning self.old.places) (Some (Clear serial)) result (meaning self.new.places) }
     {
-        let Some(place) = place_of(&self.places, serial) else {
-            return (Outcome::Absent, Former::Unchanged);
-        };
-        let former = Former::of_entry(self.places[place]);
+        let place = self.place_of(serial).ok_or(Refusal::Absent)?;
+        let former = self.places[place];
         self.places[place] = None;
-        (Outcome::Done, former)
+        Ok(former.into())
     }
 }

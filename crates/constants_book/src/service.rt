@@ -1,14 +1,13 @@
 //! The book as a service, and what people read of it.
 
 ghost use Rattle.std.specs.Prelude.{◌≡◌, ℕ};
-ghost use Rattle.constants.specs.Books.{Book, Undoes, answer, empty_book, restored, stepped};
+ghost use Rattle.constants.specs.Books.{Book, Carried, Undoes, answer, empty_book, restored, stepped};
 ghost use Rattle.constants.specs.Commands.{command_of};
 ghost use Rattle.constants.specs.Slips.{former_in};
 ghost use Rattle.constants_book.specs.Places.{meaning};
 
 use crate::book::ConstantsBook;
-use crate::places::place_of;
-use constants::{Command, Former, Outcome};
+use constants::{Command, DONE, Former, Refusal};
 use payload::Payload;
 use services::{Service, Slip};
 
@@ -24,9 +23,15 @@ impl ConstantsBook {
     pub fn offset(&self, serial: u32) -> Option<i32>
         ensures { result ≡ meaning self.now.places serial }
     {
-        let place = place_of(&self.places, serial)?;
-        let entry = self.places[place]?;
-        Some(entry.offset)
+        let place = self.place_of(serial)?;
+        self.places[place].map(|entry| entry.offset)
+    }
+
+    /// Carries out what the payload asks for, or says why not.
+    fn step(&mut self, payload: &Payload) -> Result<Former, Refusal>
+        ensures { Carried (meaning self.old.places) (command_of payload.now) result (meaning self.new.places) }
+    {
+        self.carry_out(Command::try_from(payload)?)
     }
 }
 
@@ -42,11 +47,10 @@ impl Service for ConstantsBook {
     ghost undoes = { Undoes };
 
     fn apply(&mut self, payload: &Payload) -> (u64, Slip) {
-        let Some(command) = Command::read(payload) else {
-            return (Outcome::WrongPayload.number(), Former::Unchanged.slip());
-        };
-        let (outcome, former) = self.carry_out(command);
-        (outcome.number(), former.slip())
+        match self.step(payload) {
+            Ok(former) => (DONE, former.into()),
+            Err(refusal) => (refusal.into(), Slip::default()),
+        }
     }
 
     /// Carries out the inverse command that the slip tells of, whoever wrote the slip.
@@ -54,11 +58,8 @@ impl Service for ConstantsBook {
         ensures exact { (f : Book) → meaning self.old.places ≡ stepped f payload.now → Undoes f payload.now slip.now → meaning self.new.places ≡ f }
         ensures restores { meaning self.new.places ≡ restored (meaning self.old.places) (command_of payload.now) (former_in slip.now) }
     {
-        let Some(command) = Command::read(payload) else {
-            return;
-        };
-        if let Some(inverse) = Former::of_slip(slip).inverse(command.serial()) {
-            let _ = self.carry_out(inverse);
+        if let (Ok(command), Ok(former)) = (Command::try_from(payload), Former::try_from(slip)) {
+            let _ = self.carry_out(former.inverse(command.serial()));
         }
     }
 }

@@ -2,13 +2,10 @@
 use Rattle.std.proofs.Common.{◌≡◌, ℕ, zero, suc, ◌+◌, ◌<◌, List, [], ◌∷◌, ◌++◌, length, get_or, take, sym, refl, ap, ◌∙◌, le_of_suc-le-suc, not-suc-le-zero}
 use Rattle.services.specs.Lone.{state_after, results_of, Appending, Beginning}
 use Rattle.std.proofs.lemmas.List.{get_or-take}
+use Rattle.std.proofs.lemmas.List.Sums.{fold-append}
 use native.Mathlib.Numerals.{lt-add-one}
 
 module _ {S P : Type 0} (step : S → P → S) (result : S → P → ℕ) where
-  states_append : (s : S) (xs ys : List P) → state_after step s (xs ++ ys) ≡ state_after step (state_after step s xs) ys
-  states_append s [] ys = refl
-  states_append s (x ∷ xs) ys = states_append (step s x) xs ys
-
   results_append :
       (s : S) (xs ys : List P)
       → results_of step result s (xs ++ ys) ≡ results_of step result s xs ++ results_of step result (state_after step s xs) ys
@@ -42,9 +39,9 @@ module _ {S P : Type 0} (step : S → P → S) (result : S → P → ℕ) where
   pub appending : Appending S P step result
   appending =
       record {
-        states = states_append;
+        states = fold-append step;
         results = results_append;
-        state_more = λ s xs p. states_append s xs (p ∷ []);
+        state_more = λ s xs p. fold-append step s xs (p ∷ []);
         results_more = λ s xs p. results_append s xs (p ∷ []);
         each = length_results;
       }

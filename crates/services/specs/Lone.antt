@@ -1,11 +1,11 @@
 -- The lone service: payloads are given to one service, one after the other.
 -- S is the type of its states and P that of payloads; step and result are the service's own.
 use Rattle.std.specs.Prelude.{◌≡◌, ℕ, ◌+◌, ◌<◌, List, [], ◌∷◌, ◌++◌, length, take, slice_index, slice_index_or}
+use Rattle.std.specs.List.{fold}
 
 -- the state after the payloads, from the state s
 abbrev pub state_after : {S P : Type 0} → (S → P → S) → S → List P → S
-state_after step s [] = s
-state_after step s (p ∷ ps) = state_after step (step s p) ps
+state_after step s ps = fold step s ps
 
 -- the results of the payloads, in their order, from the state s
 abbrev pub results_of : {S P : Type 0} → (S → P → S) → (S → P → ℕ) → S → List P → List ℕ

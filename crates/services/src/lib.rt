@@ -6,9 +6,11 @@
 mod lone;
 mod service;
 mod slip;
+mod wrong;
 mod zeros;
 
 pub use lone::{appending_laws, beginning_law};
 pub use service::{Service, apply_and_undo};
-pub use slip::Slip;
+pub use slip::{NothingToUndo, Slip};
+pub use wrong::WrongPayload;
 pub use zeros::is_all_zero;

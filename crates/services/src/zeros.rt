@@ -9,10 +9,5 @@ const EMPTY: u8 = 0;
 pub fn is_all_zero(bytes: &[u8]) -> bool
     ensures { result ≡ all_zero bytes.now }
 {
-    for byte in bytes {
-        if *byte != EMPTY {
-            return false;
-        }
-    }
-    true
+    bytes.iter().all(|&byte| byte == EMPTY)
 }

@@ -1,10 +1,9 @@
 -- The stocks stay within their bounds.
-use Rattle.std.proofs.Common.{◌≡◌, ℕ, ◌<◌, ◌≤◌, List, length, get_or, set, replicate, sym, subst, ⊎_elim, arith}
+use Rattle.std.proofs.Common.{◌≡◌, ℕ, ◌<◌, ◌≤◌, List, length, get_or, set, replicate, Ok, sym, subst, ⊎_elim, arith}
 use Rattle.spares_store.specs.Outcomes.{after_moving}
 use Rattle.spares_store.specs.Stocks.{Bounded}
 use Rattle.spares_store.specs.declared.movement.Direction.{Direction}
 use Rattle.spares_store.specs.declared.movement.Direction.TheVariants.{In, Out}
-use Rattle.spares_store.specs.declared.outcome.Outcome.TheVariants.{Stock}
 use Rattle.std.proofs.lemmas.List.{get_or-set_same, get_or-set_other, get_or_past, set_past, get_or-replicate, length-replicate}
 use Rattle.std.proofs.lemmas.Bool.{cases_eq, cases_lt}
 use Rattle.std.proofs.lemmas.Bool.Decides.{nat_tests}
@@ -27,6 +26,6 @@ bounded_empty n k =
     (cases_lt k n)
 
 -- moving within the bounds gives a stock within them
-pub bounded_moving : (d : Direction) (stock quantity n : ℕ) → stock ≤ 60000 → after_moving d stock quantity ≡ Stock n → n ≤ 60000
+pub bounded_moving : (d : Direction) (stock quantity n : ℕ) → stock ≤ 60000 → after_moving d stock quantity ≡ Ok n → n ≤ 60000
 bounded_moving In stock quantity n h e = grind (arith, nat_tests)
 bounded_moving Out stock quantity n h e = grind (arith, nat_tests)

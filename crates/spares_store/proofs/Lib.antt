@@ -1,4 +1,3 @@
 mod Bounds
-mod Reading
 mod Undoing
 mod StoreRules

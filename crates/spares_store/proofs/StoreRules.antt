@@ -1,5 +1,5 @@
 -- The rules of the store.
-use Rattle.std.proofs.Common.{◌≡◌, ℕ, ◌<◌, ◌≤◌, List, length, get_or, Some, None, Option, refl, arith}
+use Rattle.std.proofs.Common.{◌≡◌, ℕ, ◌<◌, ◌≤◌, List, length, get_or, Some, None, Option, Ok, Err, Result, refl, arith}
 use Rattle.spares_store.proofs.Bounds.{bounded_set, bounded_moving}
 use Rattle.spares_store.specs.Movements.{movement_of}
 use Rattle.spares_store.specs.Outcomes.{after_moving, number}
@@ -7,8 +7,8 @@ use Rattle.spares_store.specs.Rules.{StoreRules}
 use Rattle.spares_store.specs.Stocks.{Bounded, moved, outcome, settled}
 use Rattle.spares_store.specs.declared.movement.Direction.TheVariants.{Out}
 use Rattle.spares_store.specs.declared.movement.Movement.{Movement}
-use Rattle.spares_store.specs.declared.outcome.Outcome.{Outcome}
-use Rattle.spares_store.specs.declared.outcome.Outcome.TheVariants.{Stock, TooFew, TooMany, WrongPayload}
+use Rattle.spares_store.specs.declared.refusal.Refusal.{Refusal}
+use Rattle.spares_store.specs.declared.refusal.Refusal.TheVariants.{TooFew, TooMany, WrongPayload}
 use Rattle.std.proofs.lemmas.List.{get_or-set_same, get_or-set_other, length-set}
 use Rattle.std.proofs.lemmas.Bool.Decides.{nat_tests}
 
@@ -16,12 +16,10 @@ empty_by : (stock : ℕ) → stock ≡ 0 → number (after_moving Out stock 1) �
 empty_by stock e = grind (arith, nat_tests)
 
 unchanged_by :
-    (stocks : List ℕ) (part : ℕ) (o : Outcome) → ((n : ℕ) → o ≡ Stock n → n ≤ 60000) → 60000 < number o
+    (stocks : List ℕ) (part : ℕ) (o : Result ℕ Refusal) → ((n : ℕ) → o ≡ Ok n → n ≤ 60000) → 60000 < number o
     → settled stocks part o ≡ stocks
-unchanged_by stocks part (Stock n) b h = let small = b n refl in absurd (omega arith)
-unchanged_by stocks part TooFew b h = refl
-unchanged_by stocks part TooMany b h = refl
-unchanged_by stocks part WrongPayload b h = refl
+unchanged_by stocks part (Ok n) b h = let small = b n refl in absurd (omega arith)
+unchanged_by stocks part (Err refusal) b h = refl
 
 unchanged : (stocks : List ℕ) (o : Option Movement) → Bounded stocks → 60000 < number (outcome stocks o) → moved stocks o ≡ stocks
 unchanged stocks None b h = refl
@@ -30,37 +28,31 @@ unchanged stocks (Some m) b h =
     (λ n e. bounded_moving m.direction (get_or stocks m.part 0) m.quantity n (b m.part) e) h
 
 new_by :
-    (stocks : List ℕ) (part : ℕ) (o : Outcome) → part < length stocks → number o ≤ 60000
+    (stocks : List ℕ) (part : ℕ) (o : Result ℕ Refusal) → part < length stocks → number o ≤ 60000
     → get_or (settled stocks part o) part 0 ≡ number o
-new_by stocks part (Stock n) l h = get_or-set_same stocks part n 0 l
-new_by stocks part TooFew l h = absurd (omega arith)
-new_by stocks part TooMany l h = absurd (omega arith)
-new_by stocks part WrongPayload l h = absurd (omega arith)
+new_by stocks part (Ok n) l h = get_or-set_same stocks part n 0 l
+new_by stocks part (Err TooFew) l h = absurd (omega arith)
+new_by stocks part (Err TooMany) l h = absurd (omega arith)
+new_by stocks part (Err WrongPayload) l h = absurd (omega arith)
 
 others_by :
-    (stocks : List ℕ) (part : ℕ) (o : Outcome) (q : ℕ) → (q ≡ part → ⊥) → get_or (settled stocks part o) q 0 ≡ get_or stocks q 0
-others_by stocks part (Stock n) q d = get_or-set_other stocks part q n 0 d
-others_by stocks part TooFew q d = refl
-others_by stocks part TooMany q d = refl
-others_by stocks part WrongPayload q d = refl
+    (stocks : List ℕ) (part : ℕ) (o : Result ℕ Refusal) (q : ℕ) → (q ≡ part → ⊥) → get_or (settled stocks part o) q 0 ≡ get_or stocks q 0
+others_by stocks part (Ok n) q d = get_or-set_other stocks part q n 0 d
+others_by stocks part (Err refusal) q d = refl
 
-as_many_by : (stocks : List ℕ) (part : ℕ) (o : Outcome) → length (settled stocks part o) ≡ length stocks
-as_many_by stocks part (Stock n) = length-set stocks part n
-as_many_by stocks part TooFew = refl
-as_many_by stocks part TooMany = refl
-as_many_by stocks part WrongPayload = refl
+as_many_by : (stocks : List ℕ) (part : ℕ) (o : Result ℕ Refusal) → length (settled stocks part o) ≡ length stocks
+as_many_by stocks part (Ok n) = length-set stocks part n
+as_many_by stocks part (Err refusal) = refl
 
 as_many : (stocks : List ℕ) (o : Option Movement) → length (moved stocks o) ≡ length stocks
 as_many stocks None = refl
 as_many stocks (Some m) = as_many_by stocks m.part (outcome stocks (Some m))
 
 bounded_by :
-    (stocks : List ℕ) (part : ℕ) (o : Outcome) → Bounded stocks → ((n : ℕ) → o ≡ Stock n → n ≤ 60000)
+    (stocks : List ℕ) (part : ℕ) (o : Result ℕ Refusal) → Bounded stocks → ((n : ℕ) → o ≡ Ok n → n ≤ 60000)
     → Bounded (settled stocks part o)
-bounded_by stocks part (Stock n) b h = bounded_set stocks part n b (h n refl)
-bounded_by stocks part TooFew b h = b
-bounded_by stocks part TooMany b h = b
-bounded_by stocks part WrongPayload b h = b
+bounded_by stocks part (Ok n) b h = bounded_set stocks part n b (h n refl)
+bounded_by stocks part (Err refusal) b h = b
 
 bounded : (stocks : List ℕ) (o : Option Movement) → Bounded stocks → Bounded (moved stocks o)
 bounded stocks None b = b

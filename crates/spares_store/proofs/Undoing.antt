@@ -1,13 +1,12 @@
 -- Undoing gives the stocks as they were.
-use Rattle.std.proofs.Common.{◌≡◌, ℕ, ◌<◌, ◌≤◌, Bool, true, false, cond, List, get_or, set, Some, None, Option, refl, ap, ◌∙◌, arith}
+use Rattle.std.proofs.Common.{◌≡◌, ℕ, ◌<◌, ◌≤◌, Bool, true, false, cond, List, get_or, set, Some, None, Option, Ok, Err, Result, refl, ap, ◌∙◌, arith}
 use Rattle.payload.specs.declared.payload.Payload.{Payload}
 use Rattle.services.specs.declared.slip.Slip.{Slip}
 use Rattle.spares_store.specs.Movements.{movement_of, moving, well_formed, direction_of}
 use Rattle.spares_store.specs.Slips.{Undoes, slip_for, former_in, put_back, kept, former_of}
 use Rattle.spares_store.specs.Stocks.{Bounded, outcome, settled, moved, stepped}
 use Rattle.spares_store.specs.declared.movement.Movement.{Movement}
-use Rattle.spares_store.specs.declared.outcome.Outcome.{Outcome}
-use Rattle.spares_store.specs.declared.outcome.Outcome.TheVariants.{Stock, TooFew, TooMany, WrongPayload}
+use Rattle.spares_store.specs.declared.refusal.Refusal.{Refusal}
 use Rattle.std.proofs.lemmas.List.{set-set, set-get_or}
 use Rattle.std.proofs.lemmas.Bool.Decides.{nat_tests}
 
@@ -21,14 +20,12 @@ part_small p m e = go (well_formed p) refl (direction_of (get_or p.bytes 0 0)) e
     go false w d e = absurd (grind arith)
 
 settled_back :
-    (s : List ℕ) (part : ℕ) (o : Outcome) → part < 32 → get_or s part 0 ≤ 60000
-    → put_back (settled s part o) (former_in (slip_for (kept s part o))) ≡ s
-settled_back s part (Stock n) h b =
-    let e : former_in (slip_for (kept s part (Stock n))) ≡ kept s part (Stock n) = grind (arith, nat_tests) in
+    (s : List ℕ) (part : ℕ) (r : Result ℕ Refusal) → part < 32 → get_or s part 0 ≤ 60000
+    → put_back (settled s part r) (former_in (slip_for (kept s part r))) ≡ s
+settled_back s part (Ok n) h b =
+    let e : former_in (slip_for (kept s part (Ok n))) ≡ kept s part (Ok n) = grind (arith, nat_tests) in
     ap (put_back (set s part n)) e ∙ set-set s part n (get_or s part 0) ∙ set-get_or s part 0
-settled_back s part TooFew h b = refl
-settled_back s part TooMany h b = refl
-settled_back s part WrongPayload h b = refl
+settled_back s part (Err refusal) h b = refl
 
 moved_back :
     (s : List ℕ) (o : Option Movement) → ((m : Movement) → o ≡ Some m → m.part < 32) → Bounded s

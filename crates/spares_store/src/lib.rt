@@ -3,7 +3,7 @@
 
 mod former;
 mod movement;
-mod outcome;
+mod refusal;
 mod rules;
 mod service;
 mod store;

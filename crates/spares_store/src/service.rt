@@ -1,12 +1,13 @@
 //! The store as a service, and what people read of it.
 
 ghost use Rattle.std.specs.Prelude.{◌≡◌, ℕ, List};
-ghost use Rattle.spares_store.specs.Slips.{Undoes, former_in, put_back};
+ghost use Rattle.spares_store.specs.Movements.{movement_of};
+ghost use Rattle.spares_store.specs.Slips.{Applied, Undoes, former_in, put_back};
 ghost use Rattle.spares_store.specs.Stocks.{answer, empty_store, stepped, stock_of};
 
 use crate::former::Former;
-use crate::movement::{Movement, PARTS};
-use crate::outcome::Outcome;
+use crate::movement::Movement;
+use crate::refusal::Refusal;
 use crate::store::SparesStore;
 use payload::Payload;
 use services::{Service, Slip};
@@ -23,11 +24,22 @@ impl SparesStore {
     pub fn stock(&self, part: u8) -> Option<u16>
         ensures { result ≡ stock_of self.now.stocks part }
     {
-        if part < PARTS {
-            Some(self.stocks[part as usize])
-        } else {
-            None
-        }
+        self.stocks.get(usize::from(part)).copied()
+    }
+
+    /// Carries out what the payload asks for: the new stock of the part with what undoing has to know, or why not.
+    fn step(&mut self, payload: &Payload) -> Result<(u16, Former), Refusal>
+        ensures { Applied self.old.stocks (movement_of payload.now) result self.new.stocks }
+    {
+        let movement = Movement::try_from(payload)?;
+        let part = movement.part;
+        let stock = &mut self.stocks[usize::from(part)];
+        let former = Former {
+            part,
+            stock: *stock,
+        };
+        *stock = movement.moved(former.stock)?;
+        Ok((*stock, former))
     }
 }
 
@@ -43,23 +55,10 @@ impl Service for SparesStore {
     ghost undoes = { Undoes };
 
     fn apply(&mut self, payload: &Payload) -> (u64, Slip) {
-        let Some(movement) = Movement::read(payload) else {
-            return (Outcome::WrongPayload.number(), Former::slip(None));
-        };
-        let part = movement.part;
-        let former = self.stocks[part as usize];
-        let outcome = Outcome::of_moving(movement.direction, former, movement.quantity);
-        let kept = match outcome {
-            Outcome::Stock(stock) => {
-                self.stocks[part as usize] = stock;
-                Some(Former {
-                    part,
-                    stock: former,
-                })
-            }
-            _ => None,
-        };
-        (outcome.number(), Former::slip(kept))
+        match self.step(payload) {
+            Ok((stock, former)) => (stock.into(), former.into()),
+            Err(refusal) => (refusal.into(), Slip::default()),
+        }
     }
 
     /// Puts back the stock that the slip tells of, whoever wrote the slip.
@@ -67,7 +66,7 @@ impl Service for SparesStore {
         ensures exact { (stocks : List ℕ) → self.old.stocks ≡ stepped stocks payload.now → Undoes stocks payload.now slip.now → self.new.stocks ≡ stocks }
         ensures restores { self.new.stocks ≡ put_back self.old.stocks (former_in slip.now) }
     {
-        if let Some(former) = Former::of_slip(slip) {
+        if let Ok(former) = Former::try_from(slip) {
             self.stocks[former.part as usize] = former.stock;
         }
     }
