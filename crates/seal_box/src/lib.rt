@@ -4,6 +4,8 @@
 
 ghost use Rattle.std.specs.Prelude.{ℕ, Bool, true, List, ◌≡◌};
 
+pub mod secret;
+
 pub trait SealBox {
     // is this a genuine tag of this signer for this statement?
     ghost genuine: { Self → ℕ → List ℕ → ℕ → Bool };

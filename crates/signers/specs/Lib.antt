@@ -1,2 +1,4 @@
+pub mod Boxes
+pub mod Rows
 pub mod Signing
 pub mod Tables

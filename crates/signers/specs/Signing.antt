@@ -2,7 +2,7 @@
 use Rattle.std.specs.Prelude.{ℕ, cond, ◌&&◌, Ok, Err, Result, nat_le, nat_lt}
 use Rattle.quorum.specs.declared.refusal.Fault.{Fault}
 use Rattle.quorum.specs.declared.refusal.Fault.TheVariants.{WrongSender}
-use Rattle.signers.specs.declared.table.Entry.{Entry}
+use Rattle.signers.specs.declared.row.Entry.{Entry}
 use Rattle.signers.specs.declared.table.Table.{Table}
 use Rattle.signers.specs.declared.own.Signers.{Signers}
 use Rattle.signers.specs.Tables.{added, empty}

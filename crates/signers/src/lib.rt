@@ -2,4 +2,6 @@
 #![tactic(auto)]
 
 pub mod own;
+mod row;
+pub mod secret_box;
 mod table;

@@ -1,10 +1,13 @@
 // SipHash-2-4: a 64-bit tag of a message under a key of 16 bytes.
 #![tactic(auto)]
 
-ghost use Rattle.std.specs.Prelude.{◌≡◌, ◌+◌, ◌-◌, ◌/◌, ◌≤◌, [], ◌∷◌, ◌++◌, length, take, drop, replicate};
-ghost use Rattle.siphash.specs.Siphash.{sipround, start, compressed, finished, word, little, padded, siphash_of};
+ghost use Rattle.std.specs.Prelude.{◌≡◌, ◌-◌, ◌≤◌, [], ◌∷◌, ◌++◌, length, replicate};
+ghost use Rattle.siphash.specs.Siphash.{sipround, start, compressed, finished, siphash_of};
 
-#[derive(Clone, Copy)]
+use seal_box::secret::Secret;
+
+// It has no `Debug`, so that no one prints a key.
+#[derive(Clone, Copy, PartialEq, Eq)]
 pub struct Key(pub [u8; 16]);
 
 // The four words that the hash works on.
@@ -20,8 +23,9 @@ impl State {
     fn new(key: &Key) -> State
         ensures { result ≡ start key.now.0 }
     {
-        let k0 = word_at(&key.0, 0);
-        let k1 = word_at(&key.0, 8);
+        let (words, _) = key.0.as_chunks::<8>();
+        let k0 = u64::from_le_bytes(words[0]);
+        let k1 = u64::from_le_bytes(words[1]);
         State {
             v0: k0 ^ 0x736f_6d65_7073_6575,
             v1: k1 ^ 0x646f_7261_6e64_6f6d,
@@ -79,50 +83,34 @@ impl State {
     }
 }
 
-// the eight bytes from a place on, lowest first
-fn word_at(bytes: &[u8], at: usize) -> u64
-    requires { at + 8 ≤ length bytes.now }
-    ensures { result ≡ little (take 8 (drop at bytes.now)) }
-{
-    u64::from_le_bytes([
-        bytes[at],
-        bytes[at + 1],
-        bytes[at + 2],
-        bytes[at + 3],
-        bytes[at + 4],
-        bytes[at + 5],
-        bytes[at + 6],
-        bytes[at + 7],
-    ])
-}
-
 // up to seven bytes, then null bytes, and one byte on top
 fn topped(rest: &[u8], top: u8) -> [u8; 8]
     requires { length rest.now ≤ 7 }
     ensures { result ≡ rest.now ++ (replicate (7 - length rest.now) 0 ++ top ∷ []) }
 {
     let mut block = [0; 8];
-    block[0..rest.len()].copy_from_slice(rest);
+    block[..rest.len()].copy_from_slice(rest);
     block[7] = top;
     block
-}
-
-// the bytes past the last whole word, null bytes, and the length modulo 256 on top
-fn last_word(message: &[u8]) -> u64
-    ensures { result ≡ word (padded message.now) (length message.now / 8) }
-{
-    let rest = &message[message.len() / 8 * 8..];
-    let block = topped(rest, (message.len() % 256) as u8);
-    u64::from_le_bytes(block)
 }
 
 // The tag of a message under a key.
 pub fn siphash(key: &Key, message: &[u8]) -> u64
     ensures { result ≡ siphash_of key.now.0 message.now }
 {
+    let (words, rest) = message.as_chunks::<8>();
+    let last = topped(rest, (message.len() % 256) as u8);
     let mut state = State::new(key);
-    for i in 0..message.len() / 8 {
-        state = state.compress(word_at(message, 8 * i));
+    for word in words {
+        state = state.compress(u64::from_le_bytes(*word));
     }
-    state.compress(last_word(message)).finish()
+    state.compress(u64::from_le_bytes(last)).finish()
+}
+
+impl Secret for Key {
+    ghost tag_of = { λ key statement. siphash_of key.0 statement };
+
+    fn tag(&self, statement: &[u8]) -> u64 {
+        siphash(self, statement)
+    }
 }

@@ -7,16 +7,7 @@ mod published;
 use known::{empty_message, whole_word, worked_example};
 use published::{EXAMPLE, KEY, TAGS};
 use siphash::siphash;
-use std::io;
-
-// 00, 01, 02, .. up to 3f
-fn counting() -> [u8; 64] {
-    let mut bytes = [0; 64];
-    for i in 0..64u8 {
-        bytes[i as usize] = i;
-    }
-    bytes
-}
+use std::{array, io};
 
 fn verdict(tag: u64, published: u64) -> &'static str {
     if tag == published {
@@ -27,16 +18,18 @@ fn verdict(tag: u64, published: u64) -> &'static str {
 }
 
 fn main(rt: HostRuntime) -> io::Result<()> {
-    let message = counting();
-    let mut right = 0u32;
-    for (n, published) in TAGS.iter().enumerate() {
-        let tag = siphash(&KEY, &message[0..n]);
-        let word = verdict(tag, *published);
+    // 00, 01, 02, .. up to 3f
+    let message: [u8; 64] = array::from_fn(|i| i as u8);
+    let tags: [u64; 64] = array::from_fn(|n| siphash(&KEY, &message[..n]));
+    for (n, (tag, published)) in tags.iter().zip(&TAGS).enumerate() {
+        let word = verdict(*tag, *published);
         println!(rt; "{n:2} bytes: {tag:016x} {word}")?;
-        if tag == *published {
-            right = right.saturating_add(1);
-        }
     }
+    let right = tags
+        .iter()
+        .zip(&TAGS)
+        .filter(|(tag, published)| tag == published)
+        .count();
     println!(rt; "{right} of 64 as published")?;
     let known = [
         (empty_message(), TAGS[0]),

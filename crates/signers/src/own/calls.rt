@@ -4,7 +4,8 @@ ghost use Rattle.signers.specs.Signing.{entry_of, own_of, table_of, seen, made_o
 ghost use Rattle.signers.specs.Tables.{secret_of, added};
 
 use crate::own::Signers;
-use crate::table::{Entry, Table};
+use crate::row::Entry;
+use crate::table::Table;
 use quorum::refusal::Fault;
 
 impl<T: Copy> Signers<T> {
@@ -36,10 +37,7 @@ impl<T: Copy> Signers<T> {
     pub fn own_secret(&self) -> T
         ensures { secret_of (table_of self.now) (own_of self.now) ≡ Some result }
     {
-        match self.table.secret(self.own) {
-            Some(secret) => secret,
-            None => unreachable(),
-        }
+        self.table.secret(self.own).unwrap()
     }
 
     pub fn add(&mut self, number: u16, secret: T) -> Result<(), Fault>

@@ -1,22 +1,27 @@
-use Rattle.std.proofs.Common.{◌≡◌, ◌/◌, length, ap, arith}
+use Rattle.std.proofs.Common.{◌≡◌, ◌<◌, ◌/◌, length, arith, rules}
 use Rattle.siphash.specs.Siphash.{after, padded, start, siphash_of}
-use Rattle.siphash.proofs.Words.{after_more, word_padded}
+use Rattle.siphash.proofs.Words.{after_more, word_at, word_padded, word_last}
 use Rattle.siphash.proofs.siphash.Goals as goal
 
-pub loop-i-init : goal.loop-i-init
+pub loop-word-init : goal.loop-word-init
 unfolding after
-loop-i-init c = cc
+loop-word-init c = cc
 
-pub loop-i-preserved : goal.loop-i-preserved
-loop-i-preserved c =
-    let s = after_more (start c.args.key.now.0) (padded c.args.message.now) c.loop-i.i in
-    let w = word_padded c.args.message.now c.loop-i.i c.loop-i-test.true in
+pub loop-word-preserved : goal.loop-word-preserved
+loop-word-preserved c =
+    let m = c.args.message.now in
+    let i = c.loop-word.word-index in
+    let h : i < length m / 8 = omega arith in
+    let s = after_more (start c.args.key.now.0) (padded m) i in
+    let p = word_padded m i h in
+    let w = word_at m i h in
     cc
 
 pub returns : goal.returns
 unfolding siphash_of
 returns c =
-    let n : c.loop-i.i ≡ length c.args.message.now / 8 = omega arith in
-    let s = after_more (start c.args.key.now.0) (padded c.args.message.now) (length c.args.message.now / 8) in
-    let w : after (start c.args.key.now.0) (padded c.args.message.now) c.loop-i.i ≡ after (start c.args.key.now.0) (padded c.args.message.now) (length c.args.message.now / 8) = ap (after _ _) n in
+    let m = c.args.message.now in
+    let n : c.loop-word.word-index ≡ length m / 8 = omega arith in
+    let s = after_more (start c.args.key.now.0) (padded m) (length m / 8) in
+    let w = word_last m c.as_chunks.result.1.now c.topped-last.result c.as_chunks.ensures.back (search rules) in
     cc
