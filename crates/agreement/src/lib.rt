@@ -17,43 +17,31 @@ pub trait Ring {
 }
 
 // Two prepared certificates of one view and round have one request.
-pub fn prepared_once<R: Ring>() -> u8
+pub fn prepared_once<R: Ring>()
     ensures { PreparedOnce R.Ring.Request R.Ring.sealed }
-{
-    0
-}
+{}
 
 // A chosen request is the only one in its view and later, and so are the requests below it.
-pub fn chosen_fixed<R: Ring>() -> u8
+pub fn chosen_fixed<R: Ring>()
     ensures { ChosenFixed R.Ring.Request R.Ring.sealed }
-{
-    0
-}
+{}
 
 // Committed logs of good stations agree, with each other and with what is chosen.
-pub fn logs_agree<R: Ring>() -> u8
+pub fn logs_agree<R: Ring>()
     ensures { LogsAgree R.Ring.Request R.Ring.sealed }
-{
-    0
-}
+{}
 
 // One list of requests holds all committed logs and all that is chosen.
-pub fn one_list<R: Ring>() -> u8
+pub fn one_list<R: Ring>()
     ensures { OneList R.Ring.Request R.Ring.sealed }
-{
-    0
-}
+{}
 
 // A run of four stations that chooses and commits a request.
-pub fn sample_commit() -> u8
+pub fn sample_commit()
     ensures { SampleCommit }
-{
-    0
-}
+{}
 
 // A run of four stations whose change of view undoes a line and keeps a chosen one.
-pub fn sample_change() -> u8
+pub fn sample_change()
     ensures { SampleChange }
-{
-    0
-}
+{}

@@ -1,11 +1,9 @@
 -- Certificates: a proposal, the mask of its seals, and the seals by rising station. Assumes nothing.
-use Rattle.std.proofs.Common.{◌≡◌, ℕ, ◌+◌, ◌-◌, ◌*◌, ◌/◌, ◌^◌, ◌<◌, ◌≤◌, Bool, true, false, cond, eqb, List, [], ◌∷◌, ◌++◌, length, get_or, is_some, Some, None, Ok, Option, Result, sym, refl, ap, ◌∙◌, subst, add-zero, arith, length-append}
-use native.Mathlib.Nat.{zero-div}
-use lib.Count.{ones}
+use Rattle.std.proofs.Common.{◌≡◌, ℕ, ◌+◌, ◌*◌, ◌/◌, ◌^◌, ◌<◌, ◌≤◌, Bool, true, false, cond, eqb, List, [], ◌∷◌, ◌++◌, length, get_or, is_some, Some, None, Ok, Option, Result, sym, refl, ap, ◌∙◌, subst, add-zero, arith, length-append}
+use Rattle.std.specs.Prelude.{count_ones}
 use Rattle.std.specs.List.{flat_map, AllByRecursion}
 use Rattle.std.proofs.lemmas.Bool.{eqb-true, eq-eqb, and_parts, and_from}
 use Rattle.std.proofs.ByRecursion.{All-get_or, All-from_get_or}
-use Rattle.std.proofs.lemmas.Nat.{shr-shr}
 use Rattle.std.proofs.lemmas.List.{get_or_default}
 use Rattle.quorum.specs.declared.refusal.Fault.{Fault}
 use Rattle.quorum.specs.Figures.{quorum_of}
@@ -16,8 +14,8 @@ use Rattle.records.specs.Writing.{proposal_bytes, seal_bytes, seals_bytes, certi
 use Rattle.records.specs.declared.certificate.Certificate.{Certificate}
 use Rattle.codec.specs.Standing.{Stands}
 use Rattle.codec.proofs.Numbers.{put_length}
-use Rattle.codec.proofs.Masks.{shows_mask, ones_mask, mask_below, none_from, mask_is}
-use Rattle.codec.proofs.Standing.{stands_join, stands_left, stands_right, stands_none, stands_same}
+use Rattle.codec.proofs.Masks.{shows_mask, ones_mask, mask_below, none_above, none_from, mask_is}
+use Rattle.codec.proofs.Standing.{stands_join, stands_split, put_join, put_split, stands_none, stands_same}
 use Rattle.codec.proofs.Steps.{ok_same, then_ok, then_by, then_on, check_by, check_on, number_back, number_on}
 use Rattle.codec.proofs.Requests.{proposal_length, proposal_back, proposal_on}
 use Rattle.codec.proofs.Rows.{Got, Row, Back, On, several_back, several_on}
@@ -75,36 +73,24 @@ seals_back bs mask k at seals all room e =
 
 seals_on : (bs : List ℕ) (mask k at : ℕ) (seals : List (Option ℕ)) → Row (RightSlot mask) k seals → Stands bs at (flat_map seal_bytes seals) → (several (slot_at bs mask) at k then (λ got. Ok got.0)) ≡ Ok seals
 seals_on bs mask k at seals r s =
-    then_on (λ got. Ok got.0) (several_on bs (slot_at bs mask) seal_bytes (RightSlot mask) (slot_on bs mask) None k at seals r s) refl
+    then_on (λ got. Ok got.0) (several_on bs (slot_at bs mask) seal_bytes (RightSlot mask) (slot_on bs mask) k at seals r s) refl
 
 pub certificate_length : (n : ℕ) (c : Certificate) → RightCertificate n c → length (certificate_bytes c) ≡ certificate_size n
 unfolding certificate_bytes seals_bytes
 certificate_length n c h =
-    let p = proposal_length c.proposal h.proposal_right in
-    let m = put_length 2 (mask_of c.seals) in
-    let s = seals_length c.seals in
-    let q = h.quorate in
-    let l = length-append (proposal_bytes c.proposal) (put 2 (mask_of c.seals) ++ flat_map seal_bytes c.seals) in
-    let r = length-append (put 2 (mask_of c.seals)) (flat_map seal_bytes c.seals) in
-    omega arith
-
--- a mask with no bit at n or above has none at 10 or above
-mask_ten : (n mask : ℕ) → n ≤ 10 → mask / 2 ^ n ≡ 0 → mask / 2 ^ 10 ≡ 0
-mask_ten n mask l h =
-    let more : n + (10 - n) ≡ 10 = omega arith in
-    ap (λ k. mask / 2 ^ k) (sym more) ∙ sym (shr-shr mask n (10 - n)) ∙ ap (λ m. m / 2 ^ (10 - n)) h ∙ zero-div (2 ^ (10 - n))
+    simp (length-append, put_length, seals_length) (omega (arith, proposal_length c.proposal h.proposal_right, h.quorate))
 
 -- a quorum of seals below n, as the mask has it
 seals_right : (n mask : ℕ) (seals : List (Option ℕ)) → n ≤ 10 → quorate n mask ≡ true → Row (RightSlot mask) 10 seals → (mask_of seals ≡ mask) × AllByRecursion RightSeal seals × (seals_there seals ≡ quorum_of n) × ((i : ℕ) → n ≤ i → get_or seals i None ≡ None)
 seals_right n mask seals ten q r =
-    let t = and_parts (eqb (mask / 2 ^ n) 0) (eqb (ones mask) (quorum_of n)) q in
+    let t = and_parts (eqb (mask / 2 ^ n) 0) (eqb (count_ones mask) (quorum_of n)) q in
     let high : mask / 2 ^ n ≡ 0 = eqb-true (mask / 2 ^ n) 0 t.0 in
-    let count : ones mask ≡ quorum_of n = eqb-true (ones mask) (quorum_of n) t.1 in
-    let all-high : mask / 2 ^ length seals ≡ 0 = ap (λ k. mask / 2 ^ k) r.many ∙ mask_ten n mask ten high in
+    let count : count_ones mask ≡ quorum_of n = eqb-true (count_ones mask) (quorum_of n) t.1 in
+    let all-high : mask / 2 ^ length seals ≡ 0 = ap (λ k. mask / 2 ^ k) r.many ∙ none_above mask n 10 ten high in
     let same = mask_is seals mask all-high (λ i l. (r.each i None (subst (λ k. i < k) r.many l)).0) in (
       same,
       All-from_get_or RightSeal seals None (λ i l. (r.each i None (subst (λ k. i < k) r.many l)).1),
-      sym (ones_mask seals) ∙ ap ones same ∙ count,
+      sym (ones_mask seals) ∙ ap count_ones same ∙ count,
       none_from seals n (ap (λ m. m / 2 ^ n) same ∙ high),
     )
 
@@ -120,13 +106,13 @@ seals_row n c h = record {
 
 seals_quorate : (n : ℕ) (c : Certificate) → RightCertificate n c → quorate n (mask_of c.seals) ≡ true
 seals_quorate n c h =
-    and_from (eqb (mask_of c.seals / 2 ^ n) 0) (eqb (ones (mask_of c.seals)) (quorum_of n))
+    and_from (eqb (mask_of c.seals / 2 ^ n) 0) (eqb (count_ones (mask_of c.seals)) (quorum_of n))
     (eq-eqb (mask_of c.seals / 2 ^ n) 0 (mask_below c.seals n h.inside))
-    (eq-eqb (ones (mask_of c.seals)) (quorum_of n) (ones_mask c.seals ∙ h.quorate))
+    (eq-eqb (count_ones (mask_of c.seals)) (quorum_of n) (ones_mask c.seals ∙ h.quorate))
 
 mask_fits : (n : ℕ) (c : Certificate) → n ≤ 10 → RightCertificate n c → Fits 2 (mask_of c.seals)
 mask_fits n c ten h =
-    let high = mask_ten n (mask_of c.seals) ten (mask_below c.seals n h.inside) in
+    let high = none_above (mask_of c.seals) n 10 ten (mask_below c.seals n h.inside) in
     omega arith
 
 pub certificate_back : (n : ℕ) → n ≤ 10 → (bs : List ℕ) (at : ℕ) (c : Certificate) → Bytes bs → certificate_at n bs at ≡ Ok c → RightCertificate n c × Stands bs at (certificate_bytes c)
@@ -147,22 +133,20 @@ certificate_back n ten bs at c all e =
     subst (λ c. RightCertificate n c × Stands bs at (certificate_bytes c)) (ok_same e₄) (
       record { proposal_right = p.0; ten = row.many; seals_right = r.1; quorate = r.2; inside = r.3 },
       stands_same (ap (λ k. proposal_bytes proposal ++ (put 2 k ++ flat_map seal_bytes seals)) (sym r.0))
-          (stands_join p.1 (stands_join mask-there s.1 (omega arith)) (omega arith)),
+          (stands_join p.1 (put_join 2 mask m.1 s.1 (omega arith)) (omega arith)),
     )))))
 
 pub certificate_on : (n : ℕ) → n ≤ 10 → (bs : List ℕ) (at : ℕ) (c : Certificate) → RightCertificate n c → Stands bs at (certificate_bytes c) → certificate_at n bs at ≡ Ok c
 unfolding certificate_bytes seals_bytes
 certificate_on n ten bs at c h s =
     let l₃₈ = proposal_length c.proposal h.proposal_right in
-    let l₂ = put_length 2 (mask_of c.seals) in
-    let proposal = stands_left (proposal_bytes c.proposal) _ s in
-    let rest = stands_right (proposal_bytes c.proposal) _ (at + 38) (omega arith) s in
-    let mask = stands_left (put 2 (mask_of c.seals)) _ rest in
-    let seals = stands_right (put 2 (mask_of c.seals)) _ (at + 40) (omega arith) rest in
-    then_on _ (proposal_on bs at c.proposal h.proposal_right proposal)
-    (then_on _ (number_on 2 bs (at + 38) (mask_of c.seals) (mask_fits n c ten h) mask)
+    let seals : List ℕ = flat_map seal_bytes c.seals in
+    let a = stands_split (proposal_bytes c.proposal) (put 2 (mask_of c.seals) ++ seals) (at + 38) (omega arith) s in
+    let b = put_split 2 (mask_of c.seals) seals (at + 40) (omega arith) a.1 in
+    then_on _ (proposal_on bs at c.proposal h.proposal_right a.0)
+    (then_on _ (number_on 2 bs (at + 38) (mask_of c.seals) (mask_fits n c ten h) b.0)
     (check_on (at + 38) (seals_quorate n c h)
-    (then_on _ (seals_on bs (mask_of c.seals) 10 (at + 40) c.seals (seals_row n c h) seals)
+    (then_on _ (seals_on bs (mask_of c.seals) 10 (at + 40) c.seals (seals_row n c h) b.1)
     refl)))
 
 -- one of several certificates

@@ -1,10 +1,10 @@
 -- Numbers as bytes: a number in k bytes has k bytes, and is read back from them; k bytes are those of their number.
 -- Assumes nothing.
-use Rattle.std.proofs.Common.{◌≡◌, ℕ, zero, suc, ◌+◌, ◌*◌, ◌/◌, ◌%◌, ◌^◌, ◌<◌, ◌≤◌, List, [], ◌∷◌, ◌++◌, length, get_or, take, sym, refl, ap, ◌∙◌, subst, pow-suc, div-add-mod', add-one, arith}
+use Rattle.std.proofs.Common.{◌≡◌, ℕ, zero, suc, ◌+◌, ◌*◌, ◌/◌, ◌%◌, ◌^◌, ◌<◌, ◌≤◌, List, [], ◌∷◌, ◌++◌, length, get_or, take, sym, refl, ap, ◌∙◌, subst, pow-suc, div-add-mod', add-one, arith, length-append}
 use Rattle.std.proofs.lemmas.List.{length_push, length-take-le, take_more, take_all, nil_from_length}
-use Rattle.std.proofs.ByRecursion.{All-take, All-get_or, All-push}
+use Rattle.std.proofs.ByRecursion.{All-take, All-get_or}
 use Rattle.std.proofs.lemmas.Int.Digits.{number_push, number_lt}
-use Rattle.std.proofs.lemmas.Nat.{div_below, mod_below, div-mul-add, mod-mul-add}
+use Rattle.std.proofs.lemmas.Nat.{div_below, div-mul-add, mod-mul-add}
 use Rattle.records.specs.Numbers.{put, number_of}
 use Rattle.records.specs.Range.{Byte, Bytes, Fits}
 
@@ -13,10 +13,8 @@ unfolding put
 put_length zero n = refl
 put_length (suc k) n = let e = put_length k (n / 256) in length_push (put k (n / 256)) (n % 256) ∙ ap (λ m. m + 1) e ∙ add-one k
 
-pub put_bytes : (k n : ℕ) → Bytes (put k n)
-unfolding put
-put_bytes zero n = tt
-put_bytes (suc k) n = All-push Byte (put k (n / 256)) (n % 256) (put_bytes k (n / 256)) (mod_below n 256 (omega arith))
+pub sealed_length : (xs : List ℕ) (seal : ℕ) → length (xs ++ put 8 seal) ≡ length xs + 8
+sealed_length xs seal = simp (length-append, put_length)
 
 fits_half : (k n : ℕ) → Fits (suc k) n → Fits k (n / 256)
 fits_half k n h = div_below n 256 (256 ^ k) (omega arith) (subst (λ m. n < m) (pow-suc 256 k) h)
@@ -56,7 +54,3 @@ put_number (suc k) xs h b =
 -- k bytes write a number that fits
 pub number_fits : (k : ℕ) (xs : List ℕ) → length xs ≡ k → Bytes xs → Fits k (number_of xs)
 number_fits k xs h b = subst (λ m. number_of xs < 256 ^ m) h (number_lt 256 xs b)
-
--- two numbers of k bytes with the same bytes are the same
-pub put_one : (k m n : ℕ) → Fits k m → Fits k n → put k m ≡ put k n → m ≡ n
-put_one k m n p q e = sym (number_put k m p) ∙ ap number_of e ∙ number_put k n q

@@ -9,7 +9,7 @@ use Rattle.records.specs.declared.request.Request.{Request}
 use Rattle.records.specs.declared.request.Proposal.{Proposal}
 use Rattle.codec.specs.Standing.{Stands}
 use Rattle.codec.proofs.Numbers.{put_length}
-use Rattle.codec.proofs.Standing.{stands_join, stands_left, stands_right}
+use Rattle.codec.proofs.Standing.{stands_join, stands_split, put_join, put_split}
 use Rattle.codec.proofs.Steps.{ok_same, then_ok, then_on, check_ok, check_on, part_back, part_on, number_back, number_on, view_back, view_on}
 
 pub asked_length : (r : Request) → length r.payload.bytes ≡ 16 → length (asked_bytes r) ≡ 22
@@ -37,9 +37,7 @@ request_back bs at r all e =
     let sequence = number_back 4 bs (at + 2) b.0 all b.1 in
     let payload = part_back 16 bs (at + 6) c.0 all c.1 in
     let seal = number_back 8 bs (at + 22) d.0 all d.1 in
-    let l₂ = put_length 2 a.0 in
-    let l₄ = put_length 4 b.0 in
-    let l : length (put 2 a.0 ++ (put 4 b.0 ++ c.0)) ≡ 22 = simp (length-append) (omega arith) in
+    let l : length (put 2 a.0 ++ (put 4 b.0 ++ c.0)) ≡ 22 = simp (length-append, put_length) (omega (arith, payload.0)) in
     subst (λ r. RightRequest r × Stands bs at (request_bytes r)) (ok_same d.2) (
       record {
         client_low = leb-true 1000 a.0 a-low.0;
@@ -50,27 +48,23 @@ request_back bs at r all e =
         payload_bytes = payload.1;
         seal_fits = seal.0;
       },
-      stands_join (stands_join client.1 (stands_join sequence.1 payload.2 (omega arith)) (omega arith)) seal.1 (omega arith),
+      stands_join (put_join 2 a.0 client.1 (put_join 4 b.0 sequence.1 payload.2 (omega arith)) refl) seal.1 (omega arith),
     )
 
 pub request_on : (bs : List ℕ) (at : ℕ) (r : Request) → RightRequest r → Stands bs at (request_bytes r) → request_at bs at ≡ Ok r
 unfolding request_bytes asked_bytes
 request_on bs at r h s =
-    let l₂ = put_length 2 r.client in
-    let l₄ = put_length 4 r.sequence in
-    let l : length (put 2 r.client ++ (put 4 r.sequence ++ r.payload.bytes)) ≡ 22 = simp (length-append) (omega arith) in
-    let asked = stands_left (put 2 r.client ++ (put 4 r.sequence ++ r.payload.bytes)) (put 8 r.seal) s in
-    let seal = stands_right (put 2 r.client ++ (put 4 r.sequence ++ r.payload.bytes)) (put 8 r.seal) (at + 22) (omega arith) s in
-    let client = stands_left (put 2 r.client) _ asked in
-    let rest = stands_right (put 2 r.client) _ (at + 2) (omega arith) asked in
-    let sequence = stands_left (put 4 r.sequence) _ rest in
-    let payload = stands_right (put 4 r.sequence) _ (at + 6) (omega arith) rest in
-    then_on _ (number_on 2 bs at r.client h.client_fits client)
+    let rest : List ℕ = put 4 r.sequence ++ r.payload.bytes in
+    let l : length (put 2 r.client ++ rest) ≡ 22 = asked_length r h.payload_long in
+    let a = stands_split (put 2 r.client ++ rest) (put 8 r.seal) (at + 22) (omega arith) s in
+    let b = put_split 2 r.client rest (at + 2) refl a.0 in
+    let c = put_split 4 r.sequence r.payload.bytes (at + 6) (omega arith) b.1 in
+    then_on _ (number_on 2 bs at r.client h.client_fits b.0)
     (check_on at (le-leb 1000 r.client h.client_low)
-    (then_on _ (number_on 4 bs (at + 2) r.sequence h.sequence_fits sequence)
+    (then_on _ (number_on 4 bs (at + 2) r.sequence h.sequence_fits c.0)
     (check_on (at + 2) (le-leb 1 r.sequence h.sequence_low)
-    (then_on _ (part_on 16 bs (at + 6) r.payload.bytes h.payload_long payload)
-    (then_on _ (number_on 8 bs (at + 22) r.seal h.seal_fits seal)
+    (then_on _ (part_on 16 bs (at + 6) r.payload.bytes h.payload_long c.1)
+    (then_on _ (number_on 8 bs (at + 22) r.seal h.seal_fits a.1)
     refl)))))
 
 pub proposal_back : (bs : List ℕ) (at : ℕ) (p : Proposal) → Bytes bs → proposal_at bs at ≡ Ok p → RightProposal p × Stands bs at (proposal_bytes p)
@@ -82,23 +76,17 @@ proposal_back bs at p all e =
     let view = view_back 0 last_view bs at a.0 all a.1 in
     let round = number_back 4 bs (at + 4) b.0 all b.1 in
     let request = request_back bs (at + 8) c.0 all c.1 in
-    let l = put_length 4 a.0 in
-    let m = put_length 4 b.0 in
     subst (λ p. RightProposal p × Stands bs at (proposal_bytes p)) (ok_same c.2) (
       record { view_high = view.1; round_fits = round.0; request_right = request.0 },
-      stands_join view.2 (stands_join round.1 request.1 (omega arith)) (omega arith),
+      put_join 4 a.0 view.2 (put_join 4 b.0 round.1 request.1 (omega arith)) refl,
     )
 
 pub proposal_on : (bs : List ℕ) (at : ℕ) (p : Proposal) → RightProposal p → Stands bs at (proposal_bytes p) → proposal_at bs at ≡ Ok p
 unfolding proposal_bytes
 proposal_on bs at p h s =
-    let l = put_length 4 p.view in
-    let m = put_length 4 p.round in
-    let view = stands_left (put 4 p.view) _ s in
-    let rest = stands_right (put 4 p.view) _ (at + 4) (omega arith) s in
-    let round = stands_left (put 4 p.round) _ rest in
-    let request = stands_right (put 4 p.round) _ (at + 8) (omega arith) rest in
-    then_on _ (view_on 0 last_view bs at p.view (omega arith) h.view_high (omega arith) view)
-    (then_on _ (number_on 4 bs (at + 4) p.round h.round_fits round)
-    (then_on _ (request_on bs (at + 8) p.request h.request_right request)
+    let a = put_split 4 p.view (put 4 p.round ++ request_bytes p.request) (at + 4) refl s in
+    let b = put_split 4 p.round (request_bytes p.request) (at + 8) (omega arith) a.1 in
+    then_on _ (view_on 0 last_view bs at p.view (omega arith) h.view_high (omega arith) a.0)
+    (then_on _ (number_on 4 bs (at + 4) p.round h.round_fits b.0)
+    (then_on _ (request_on bs (at + 8) p.request h.request_right b.1)
     refl))

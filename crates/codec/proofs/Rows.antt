@@ -8,7 +8,7 @@ use Rattle.quorum.specs.declared.refusal.Fault.{Fault}
 use Rattle.records.specs.Reading.{several}
 use Rattle.codec.specs.Standing.{Stands}
 use Rattle.codec.proofs.Numbers.{snoc_is}
-use Rattle.codec.proofs.Standing.{stands_join, stands_left, stands_right, stands_none, stands_same}
+use Rattle.codec.proofs.Standing.{stands_join, stands_split, stands_none, stands_same}
 use Rattle.codec.proofs.Steps.{ok_same, then_ok, then_on}
 
 -- k values, each right at its index
@@ -40,9 +40,6 @@ row_more Right k xs x r h = record {
       (cases_lt i k);
 }
 
-joined_push : {A : Type 0} (w : A → List ℕ) (xs : List A) (x : A) → flat_map w (xs ++ x ∷ []) ≡ flat_map w xs ++ w x
-joined_push w xs x = sym (flat_map_more w [] xs x)
-
 pub several_back : {A : Type 0} (bs : List ℕ) (read : ℕ → ℕ → Result (A × ℕ) Fault) (w : A → List ℕ) (Right : ℕ → A → Type 0) → Back bs read w Right → (k at : ℕ) (xs : List A) (end : ℕ) → at ≤ length bs → several read at k ≡ Ok (xs, end) → Got bs at (flat_map w) (Row Right k) (xs, end)
 several_back bs read w Right back zero at xs end h e =
     let same = ok_same e in
@@ -55,7 +52,7 @@ several_back bs read w Right back (suc k) at xs end h e =
     let s = ih.1 in
     let room : a.0.1 ≤ length bs = omega (arith, ih.2, s.inside) in
     let step = back k a.0.1 b.0.0 b.0.1 room b.1 in
-    let push = joined_push w a.0.0 b.0.0 in
+    let push : flat_map w (a.0.0 ++ b.0.0 ∷ []) ≡ flat_map w a.0.0 ++ w b.0.0 = sym (flat_map_more w [] a.0.0 b.0.0) in
     subst (Got bs at (flat_map w) (Row Right (suc k))) (ok_same b.2) (
       row_more Right k a.0.0 b.0.0 ih.0 step.0,
       stands_same (sym push) (stands_join s step.1 ih.2),
@@ -64,32 +61,35 @@ several_back bs read w Right back (suc k) at xs end h e =
           omega (arith, ih.2, step.2)),
     )
 
-pub several_on : {A : Type 0} (bs : List ℕ) (read : ℕ → ℕ → Result (A × ℕ) Fault) (w : A → List ℕ) (Right : ℕ → A → Type 0) → On bs read w Right → (d : A) (k at : ℕ) (xs : List A) → Row Right k xs → Stands bs at (flat_map w xs) → several read at k ≡ Ok (xs, at + length (flat_map w xs))
-several_on {A} bs read w Right on d zero at xs r s =
+pub several_on : {A : Type 0} (bs : List ℕ) (read : ℕ → ℕ → Result (A × ℕ) Fault) (w : A → List ℕ) (Right : ℕ → A → Type 0) → On bs read w Right → (k at : ℕ) (xs : List A) → Row Right k xs → Stands bs at (flat_map w xs) → several read at k ≡ Ok (xs, at + length (flat_map w xs))
+several_on {A} bs read w Right on zero at xs r s =
     let none : List A = [] in
     subst (λ l. several read at zero ≡ Ok (l, at + length (flat_map w l))) (sym (nil_from_length xs r.many)) (ap (λ m. Ok (none, m)) (sym (add-zero at)))
-several_on {A} bs read w Right on d (suc k) at xs r s =
+several_on bs read w Right on (suc k) at [] r s = absurd (let m = r.many in omega arith)
+several_on {A} bs read w Right on (suc k) at (d ∷ rest) r s =
+    let xs : List A = d ∷ rest in
     let split = snoc_is k xs d r.many in
     let ys : List A = take k xs in
     let y : A = get_or xs k d in
-    let push : flat_map w xs ≡ flat_map w ys ++ w y = ap (flat_map w) split ∙ joined_push w ys y in
-    let both = stands_same push s in
+    let push : flat_map w xs ≡ flat_map w ys ++ w y = ap (flat_map w) split ∙ sym (flat_map_more w [] ys y) in
     let front : length ys ≡ k = length-take-le k xs (let m = r.many in omega arith) in
     let before : Row Right k ys = record {
       many = front;
       each = λ i e l. subst (Right i) (sym (get_or-take k xs i e l)) (r.each i e (omega arith));
     } in
-    let ih = several_on bs read w Right on d k at ys before (stands_left (flat_map w ys) (w y) both) in
     let mid : ℕ = at + length (flat_map w ys) in
-    let last = on k mid y (r.each k d (omega arith)) (stands_right (flat_map w ys) (w y) mid refl both) in
+    let t = stands_split (flat_map w ys) (w y) mid refl (stands_same push s) in
+    let ih = several_on bs read w Right on k at ys before t.0 in
+    let last = on k mid y (r.each k d (omega arith)) t.1 in
     let long : mid + length (w y) ≡ at + length (flat_map w xs) =
     (let l = length-append (flat_map w ys) (w y) in let m = ap length push in omega arith) in
     let found : ys ++ y ∷ [] ≡ xs = sym split in
     then_on _ ih (then_on _ last (cc))
 
 -- a row that is right by the value alone
-pub row_all : {A : Type 0} (Right : A → Type 0) (d : A) (k : ℕ) (xs : List A) → Row (λ i. Right) k xs → AllByRecursion Right xs
-row_all Right d k xs r = All-from_get_or Right xs d (λ i l. r.each i d (subst (λ m. i < m) r.many l))
+pub row_all : {A : Type 0} (Right : A → Type 0) (k : ℕ) (xs : List A) → Row (λ i. Right) k xs → AllByRecursion Right xs
+row_all Right k [] r = tt
+row_all Right k (d ∷ xs) r = All-from_get_or Right (d ∷ xs) d (λ i l. r.each i d (subst (λ m. i < m) r.many l))
 
 pub all_row : {A : Type 0} (Right : A → Type 0) (k : ℕ) (xs : List A) → length xs ≡ k → AllByRecursion Right xs → Row (λ i. Right) k xs
 all_row Right k xs h all = record { many = h; each = λ i d l. All-get_or Right xs i d (subst (λ m. i < m) (sym h) l) all }

@@ -1,25 +1,22 @@
 -- What seals cover: the bytes of a statement say one thing, and they come first in their record. Assumes nothing.
 use Rattle.std.proofs.Common.{◌≡◌, ℕ, ◌+◌, ◌≤◌, List, ◌++◌, length, take, Ok, Result, sym, refl, ap, ◌∙◌, arith, length-append}
 use Rattle.std.specs.List.{flat_map, AllByRecursion}
-use Rattle.std.proofs.lemmas.List.{append_assoc, take_at, take_all}
+use Rattle.std.proofs.lemmas.List.{take_at}
 use Rattle.quorum.specs.declared.refusal.Fault.{Fault}
 use Rattle.quorum.specs.Figures.{quorum_of}
 use Rattle.records.specs.Numbers.{put}
-use Rattle.records.specs.Blanks.{blank_certificate, blank_state}
 use Rattle.records.specs.Range.{Byte, RightProposal, RightCertificate, RightCommit, RightState}
 use Rattle.records.specs.Reading.{◌then◌, part_at, number_at, proposal_at, several, listed_at, commit_at, member_at, mark_at}
-use Rattle.records.specs.Statements.{Statement, asks, proposes, prepares, checks, informs, alerts, leaves, begins, said_bytes, covered, RightStatement}
-use Rattle.records.specs.Writing.{mark_bytes, head_bytes, asked_bytes, request_bytes, proposal_bytes, seals_bytes, certificate_bytes, commit_bytes, prepared_bytes, state_body, state_bytes, claim_bytes, new_view_body, body_bytes, inform_body, arrival_bytes, record_bytes, check_commit_body, failure_body, states_bytes}
+use Rattle.records.specs.Statements.{Statement, asks, proposes, prepares, checks, informs, alerts, leaves, begins, said_bytes, covered, rest_bytes, own_seal, RightStatement}
+use Rattle.records.proofs.Covered.{split_own}
+use Rattle.records.specs.Writing.{mark_bytes, head_bytes, proposal_bytes, certificate_bytes, commit_bytes, prepared_bytes, state_bytes, claim_bytes, states_bytes}
 use Rattle.records.specs.declared.marks.Mark.{Mark}
 use Rattle.records.specs.declared.marks.Mark.TheVariants as mark
 use Rattle.records.specs.declared.request.Proposal.{Proposal}
-use Rattle.records.specs.declared.arrivals.Arrival.TheVariants as arrival
-use Rattle.records.specs.declared.arrivals.Record.{Record}
-use Rattle.records.specs.declared.arrivals.Record.TheVariants as rec
 use Rattle.codec.specs.Standing.{Stands}
-use Rattle.codec.specs.Laws.{SaysOne, RightSaid, CoveredFirst, CoveredLength}
+use Rattle.codec.specs.Laws.{SaysOne, CoveredFirst, CoveredLength}
 use Rattle.codec.proofs.Numbers.{put_length}
-use Rattle.codec.proofs.Standing.{stands_left, stands_right, stands_same}
+use Rattle.codec.proofs.Standing.{stands_whole, stands_split, put_split, stands_same}
 use Rattle.codec.proofs.Steps.{ok_same, then_on, part_on, number_on}
 use Rattle.codec.proofs.Rows.{several_on, all_row}
 use Rattle.codec.proofs.Marks.{mark_on, mark_length, head_split}
@@ -66,17 +63,13 @@ claim_parts {bs} m i p h k s =
 said_on : (n : ℕ) → n ≤ 10 → (bs : List ℕ) (s : Statement) → RightStatement n s → Stands bs 0 (said_bytes s) → said_of n bs ≡ Ok s
 unfolding said_bytes prepared_bytes states_bytes
 said_on n ten bs (asks client sequence payload) h s =
-    let l = mark_length mark.Request in
-    let l₂ = put_length 2 client in
-    let l₄ = put_length 4 sequence in
-    let t = stands_left (mark_bytes mark.Request) (put 2 client ++ (put 4 sequence ++ payload)) s in
-    let a = stands_right (mark_bytes mark.Request) (put 2 client ++ (put 4 sequence ++ payload)) 2 (omega arith) s in
-    let b = stands_right (put 2 client) (put 4 sequence ++ payload) 4 (omega arith) a in
-    let c = stands_right (put 4 sequence) payload 8 (omega arith) b in
-    then_on _ (mark_on bs mark.Request t)
-    (then_on _ (number_on 2 bs 2 client h.0 (stands_left (put 2 client) (put 4 sequence ++ payload) a))
-    (then_on _ (number_on 4 bs 4 sequence h.1.0 (stands_left (put 4 sequence) payload b))
-    (then_on _ (part_on 16 bs 8 payload h.1.1.0 c) refl)))
+    let t = stands_split (mark_bytes mark.Request) (put 2 client ++ (put 4 sequence ++ payload)) 2 (omega (arith, mark_length mark.Request)) s in
+    let a = put_split 2 client (put 4 sequence ++ payload) 4 refl t.1 in
+    let b = put_split 4 sequence payload 8 refl a.1 in
+    then_on _ (mark_on bs mark.Request t.0)
+    (then_on _ (number_on 2 bs 2 client h.0 a.0)
+    (then_on _ (number_on 4 bs 4 sequence h.1.0 b.0)
+    (then_on _ (part_on 16 bs 8 payload h.1.1.0 b.1) refl)))
 said_on n ten bs (proposes i p) h s =
     let c = claim_parts mark.Propose i p h.0 h.1 s in then_on _ c.0 (then_on _ c.1 (then_on _ c.2 refl))
 said_on n ten bs (prepares i p) h s =
@@ -84,10 +77,9 @@ said_on n ten bs (prepares i p) h s =
 said_on n ten bs (checks i p) h s =
     let c = claim_parts mark.CheckCommit i p h.0 h.1 s in then_on _ c.0 (then_on _ c.1 (then_on _ c.2 refl))
 said_on n ten bs (informs i p result) h s =
-    let c = claim_parts mark.Inform i p h.0 h.1.0 (stands_left (claim_bytes mark.Inform i p) (put 8 result) s) in
-    let l = claim_length mark.Inform i p h.1.0 in
-    let r = stands_right (claim_bytes mark.Inform i p) (put 8 result) 41 (omega arith) s in
-    then_on _ c.0 (then_on _ c.1 (then_on _ c.2 (then_on _ (number_on 8 bs 41 result h.1.1 r) refl)))
+    let t = stands_split (claim_bytes mark.Inform i p) (put 8 result) 41 (omega (arith, claim_length mark.Inform i p h.1.0)) s in
+    let c = claim_parts mark.Inform i p h.0 h.1.0 t.0 in
+    then_on _ c.0 (then_on _ c.1 (then_on _ c.2 (then_on _ (number_on 8 bs 41 result h.1.1 t.1) refl)))
 said_on n ten bs (alerts i view) h s =
     let t = head_split mark.Failure i (put 4 view) s in
     then_on _ (mark_on bs mark.Failure t.0)
@@ -99,84 +91,46 @@ said_on n ten bs (leaves i view commit cs) h s = go h.1.1.0 h.1.1.1.0 h.1.1.1.1 
     go right few all st =
         let c : List ℕ = commit_bytes commit in
         let js : List ℕ = flat_map certificate_bytes cs in
-        let count : List ℕ = put 1 (length cs) in
-        let l₄ = put_length 4 view in
-        let l₁ : length count ≡ 1 = put_length 1 (length cs) in
+        let tail : List ℕ = put 1 (length cs) ++ js in
         let mid : ℕ = 7 + length c in
-        let t = head_split mark.ViewState i (put 4 view ++ (c ++ (count ++ js))) st in
-        let v = stands_left (put 4 view) (c ++ (count ++ js)) t.2 in
-        let rest = stands_right (put 4 view) (c ++ (count ++ js)) 7 (omega arith) t.2 in
-        let k = stands_left c (count ++ js) rest in
-        let tail = stands_right c (count ++ js) mid refl rest in
-        let a = stands_left count js tail in
-        let b = stands_right count js (mid + 1) (omega arith) tail in
+        let t = head_split mark.ViewState i (put 4 view ++ (c ++ tail)) st in
+        let v = put_split 4 view (c ++ tail) 7 refl t.2 in
+        let k = stands_split c tail mid refl v.1 in
+        let b = put_split 1 (length cs) js (mid + 1) refl k.1 in
         let row = all_row (RightCertificate n) (length cs) cs refl all in
         then_on _ (mark_on bs mark.ViewState t.0)
         (then_on _ (number_on 1 bs 2 i h.0 t.1)
-        (then_on _ (number_on 4 bs 3 view h.1.0 v)
-        (then_on _ (commit_on n ten bs 7 commit right k)
-        (then_on _ (number_on 1 bs mid (length cs) (omega arith) a)
-        (then_on _ (several_on bs (listed_at n bs) certificate_bytes (λ j. RightCertificate n) (listed_on n ten bs) blank_certificate (length cs) (mid + 1) cs row b)
+        (then_on _ (number_on 4 bs 3 view h.1.0 v.0)
+        (then_on _ (commit_on n ten bs 7 commit right k.0)
+        (then_on _ (number_on 1 bs mid (length cs) (omega arith) b.0)
+        (then_on _ (several_on bs (listed_at n bs) certificate_bytes (λ j. RightCertificate n) (listed_on n ten bs) (length cs) (mid + 1) cs row b.1)
         refl)))))
 said_on n ten bs (begins i view ss) h s =
     let js : List ℕ = flat_map state_bytes ss in
-    let count : List ℕ = put 1 (length ss) in
-    let l₄ = put_length 4 view in
-    let l₁ : length count ≡ 1 = put_length 1 (length ss) in
+    let tail : List ℕ = put 1 (length ss) ++ js in
     let many : length ss ≡ quorum_of n = h.1.1.0 in
-    let t = head_split mark.NewView i (put 4 view ++ (count ++ js)) s in
-    let v = stands_left (put 4 view) (count ++ js) t.2 in
-    let rest = stands_right (put 4 view) (count ++ js) 7 (omega arith) t.2 in
-    let a = stands_left count js rest in
-    let b = stands_right count js 8 (omega arith) rest in
+    let t = head_split mark.NewView i (put 4 view ++ tail) s in
+    let v = put_split 4 view tail 7 refl t.2 in
+    let b = put_split 1 (length ss) js 8 refl v.1 in
     let row = all_row (RightState n) (length ss) ss refl h.1.1.1 in
     then_on _ (mark_on bs mark.NewView t.0)
     (then_on _ (number_on 1 bs 2 i h.0 t.1)
-    (then_on _ (number_on 4 bs 3 view h.1.0 v)
-    (then_on _ (number_on 1 bs 7 (length ss) (omega arith) a)
-    (then_on _ (several_on bs (member_at n bs) state_bytes (λ j. RightState n) (member_on n ten bs) blank_state (length ss) 8 ss row b)
+    (then_on _ (number_on 4 bs 3 view h.1.0 v.0)
+    (then_on _ (number_on 1 bs 7 (length ss) (omega arith) b.0)
+    (then_on _ (several_on bs (member_at n bs) state_bytes (λ j. RightState n) (member_on n ten bs) (length ss) 8 ss row b.1)
     refl))))
 
 pub says_one : SaysOne
 says_one n low ten s t right-s right-t e =
-    let here : Stands (said_bytes s) 0 (said_bytes s) =
-    record { inside = omega arith; there = take_all (length (said_bytes s)) (said_bytes s) (omega arith) } in
+    let here = stands_whole (said_bytes s) in
     let one = said_on n ten (said_bytes s) s right-s here in
     let other = said_on n ten (said_bytes s) t right-t (stands_same e here) in
     ok_same (sym one ∙ other)
 
-pub right_said : RightSaid
-right_said n (rec.Request r) h = (h.client_fits, (h.sequence_fits, (h.payload_long, h.payload_bytes)))
-right_said n (rec.Inform i) h = let c = h.claim_right in (c.sender_fits, (c.proposal_right, h.result_fits))
-right_said n (rec.Arrival (arrival.Propose p)) h = (h.sender_fits, h.proposal_right)
-right_said n (rec.Arrival (arrival.Prepare p)) h = (h.sender_fits, h.proposal_right)
-right_said n (rec.Arrival (arrival.CheckCommit c)) h = let p = h.prepared_right in (h.sender_fits, p.proposal_right)
-right_said n (rec.Arrival (arrival.Failure f)) h = (h.sender_fits, (let v = h.view_high in omega arith))
-right_said n (rec.Arrival (arrival.ViewState s)) h =
-    (h.sender_fits, ((let v = h.view_high in omega arith), (h.commit_right, (h.prepared_few, h.prepared_right))))
-right_said n (rec.Arrival (arrival.NewView v)) h =
-    (h.sender_fits, ((let w = h.view_high in omega arith), (h.states_many, h.states_right)))
-
--- what comes after the covered bytes
-covered_rest : (r : Record) → (rest : List ℕ) × (record_bytes r ≡ covered r ++ rest)
-unfolding record_bytes said_bytes arrival_bytes body_bytes inform_body request_bytes asked_bytes state_body new_view_body check_commit_body failure_body states_bytes
-covered_rest (rec.Request r) =
-    (put 8 r.seal, sym (append_assoc (mark_bytes mark.Request) (put 2 r.client ++ (put 4 r.sequence ++ r.payload.bytes)) (put 8 r.seal)))
-covered_rest (rec.Inform i) = (put 8 i.seal, refl)
-covered_rest (rec.Arrival (arrival.Propose p)) = (put 8 p.seal, refl)
-covered_rest (rec.Arrival (arrival.Prepare p)) = (put 8 p.seal, refl)
-covered_rest (rec.Arrival (arrival.CheckCommit c)) = (
-  seals_bytes c.prepared.seals ++ put 8 c.seal,
-  append_assoc (claim_bytes mark.CheckCommit c.sender c.prepared.proposal) (seals_bytes c.prepared.seals) (put 8 c.seal),
-)
-covered_rest (rec.Arrival (arrival.Failure f)) = (put 8 f.seal, refl)
-covered_rest (rec.Arrival (arrival.ViewState s)) = (put 8 s.seal, refl)
-covered_rest (rec.Arrival (arrival.NewView v)) = (put 8 v.seal, refl)
-
 pub covered_first : CoveredFirst
 covered_first r =
-    let c = covered_rest r in
-    ap (take (length (covered r))) c.1 ∙ take_at (covered r) c.0 (length (covered r)) refl
+    ap (take (length (covered r))) (split_own r)
+    ∙ take_at (covered r) (rest_bytes r ++ put 8 (own_seal r)) (length (covered r)) refl
 
 covered_check : (i : ℕ) (p : Proposal) → RightProposal p → length (said_bytes (checks i p)) ≡ 41
 unfolding said_bytes states_bytes

@@ -1,31 +1,25 @@
 -- View states: a commit certificate or none, and the prepared ones above it. Assumes nothing.
-use Rattle.std.proofs.Common.{◌≡◌, ℕ, zero, suc, ◌+◌, ◌-◌, ◌≤◌, cond, eqb, leb, List, ◌++◌, length, replicate, Some, None, Ok, Option, Result, sym, refl, ap, subst, arith, length-append}
+use Rattle.std.proofs.Common.{◌≡◌, ℕ, zero, suc, ◌+◌, ◌≤◌, cond, eqb, leb, List, ◌++◌, length, Some, None, Ok, Option, Result, sym, refl, ap, subst, arith, length-append}
 use Rattle.std.specs.List.{flat_map, AllByRecursion}
-use Rattle.std.proofs.lemmas.List.{take_at}
 use Rattle.std.proofs.lemmas.Bool.{eqb-true, leb-true, le-leb}
 use Rattle.quorum.specs.declared.refusal.Fault.{Fault}
 use Rattle.records.specs.Numbers.{put}
-use Rattle.records.specs.Lists.{listed, filled}
-use Rattle.records.specs.Blanks.{blank_certificate}
+use Rattle.arrayvec.specs.ArrayVec.{ArrayVec}
 use Rattle.records.specs.Marks.{letters}
-use Rattle.records.specs.Range.{Bytes, Fits, Packed, RightCertificate, RightCommit, RightState}
+use Rattle.records.specs.Range.{Bytes, Fits, RightCertificate, RightCommit, RightState}
 use Rattle.records.specs.Reading.{◌then◌, number_at, view_at, several, certificate_at, certificate_size, listed_at, commit_at, prepared_at, state_at, member_at}
-use Rattle.records.specs.Writing.{mark_bytes, head_bytes, certificate_bytes, commit_bytes, prepared_bytes, state_body, state_bytes}
-use Rattle.records.specs.declared.few.Few.{Few}
-use Rattle.records.specs.declared.marks.Mark.{Mark}
+use Rattle.records.specs.Writing.{mark_bytes, certificate_bytes, commit_bytes, prepared_bytes, state_body, state_bytes}
 use Rattle.records.specs.declared.marks.Mark.TheVariants as mark
 use Rattle.records.specs.declared.certificate.Certificate.{Certificate}
 use Rattle.records.specs.declared.arrivals.ViewState.{ViewState}
 use Rattle.codec.specs.Standing.{Stands}
-use Rattle.codec.proofs.Numbers.{put_length}
-use Rattle.codec.proofs.Standing.{stands_join, stands_left, stands_right, stands_same}
+pub use Rattle.codec.proofs.Marks.{head_length}
+use Rattle.codec.proofs.Marks.{head_join, head_split}
+use Rattle.codec.proofs.Numbers.{put_length, sealed_length}
+use Rattle.codec.proofs.Standing.{stands_join, stands_split, put_join, put_split, stands_same}
 use Rattle.codec.proofs.Steps.{ok_same, then_by, then_on, check_by, check_on, number_back, number_on, view_back, view_on}
 use Rattle.codec.proofs.Certificates.{certificate_length, certificate_back, certificate_on, listed_back, listed_on}
 use Rattle.codec.proofs.Rows.{Got, Back, On, several_back, several_on, row_all, all_row}
-
--- the values of a list that was filled up are those that filled it
-pub listed_filled : {A : Type 0} (blank : A) (n : ℕ) (xs : List A) → listed (filled blank n xs) ≡ xs
-listed_filled blank n xs = take_at xs (replicate (n - length xs) blank) (length xs) refl
 
 pub commit_back : (n : ℕ) → n ≤ 10 → (bs : List ℕ) → Bytes bs → (at : ℕ) (o : Option Certificate) (end : ℕ) → commit_at n bs at ≡ Ok (o, end) → Got bs at commit_bytes (RightCommit n) (o, end)
 unfolding commit_bytes
@@ -54,20 +48,18 @@ commit_on n ten bs at (Some c) h s =
     let k = certificate_length n c h in
     let m = length-append (put 1 1) (certificate_bytes c) in
     let end : at + 1 + certificate_size n ≡ at + length (put 1 1 ++ certificate_bytes c) = omega arith in
-    let count = stands_left (put 1 1) (certificate_bytes c) s in
-    let rest = stands_right (put 1 1) (certificate_bytes c) (at + 1) (omega arith) s in
-    then_on _ (number_on 1 bs at 1 (omega arith) count)
-    (then_on _ (certificate_on n ten bs (at + 1) c h rest) (ap (λ m. Ok (Some c, m)) end))
+    let t = put_split 1 1 (certificate_bytes c) (at + 1) refl s in
+    then_on _ (number_on 1 bs at 1 (omega arith) t.0)
+    (then_on _ (certificate_on n ten bs (at + 1) c h t.1) (ap (λ m. Ok (Some c, m)) end))
 
 -- the prepared certificates of a view state, in range
-abbrev pub RightPrepared : ℕ → Few Certificate 8 → Type 0
-RightPrepared n few =
-    Packed blank_certificate 8 few × (length (listed few) ≤ 8) × AllByRecursion (RightCertificate n) (listed few)
+abbrev pub RightPrepared : ℕ → ArrayVec Certificate → Type 0
+RightPrepared n few = (length few.items ≤ 8) × AllByRecursion (RightCertificate n) few.items
 
-abbrev pub few_bytes : Few Certificate 8 → List ℕ
-few_bytes few = prepared_bytes (listed few)
+abbrev pub few_bytes : ArrayVec Certificate → List ℕ
+few_bytes few = prepared_bytes few.items
 
-prepared_back : (n : ℕ) → n ≤ 10 → (bs : List ℕ) → Bytes bs → (at : ℕ) (few : Few Certificate 8) (end : ℕ) → prepared_at n bs at ≡ Ok (few, end) → Got bs at few_bytes (RightPrepared n) (few, end)
+prepared_back : (n : ℕ) → n ≤ 10 → (bs : List ℕ) → Bytes bs → (at : ℕ) (few : ArrayVec Certificate) (end : ℕ) → prepared_at n bs at ≡ Ok (few, end) → Got bs at few_bytes (RightPrepared n) (few, end)
 unfolding prepared_bytes
 prepared_back n ten bs all at few end e =
     then_by (number_at 1 bs at) _ e (λ count read e₁.
@@ -79,43 +71,41 @@ prepared_back n ten bs all at few end e =
     let r = several_back bs (listed_at n bs) certificate_bytes (λ i. RightCertificate n) (listed_back n ten bs all) count (at + 1) cs.0 cs.1 (omega (arith, s.inside)) read_all in
     let row = r.0 in
     let many : length cs.0 ≡ count = row.many in
-    let same = listed_filled blank_certificate 8 cs.0 in
     let l₁' = put_length 1 (length cs.0) in
     let m = length-append (put 1 (length cs.0)) (flat_map certificate_bytes cs.0) in
     let front = stands_same (ap (put 1) (sym many)) s in
     subst (Got bs at few_bytes (RightPrepared n)) (ok_same e₃) (
-      (
-        ap (filled blank_certificate 8) (sym same),
-        subst (λ l. length l ≤ 8) (sym same) (omega (arith, leb-true count 8 low)),
-        subst (AllByRecursion (RightCertificate n)) (sym same) (row_all (RightCertificate n) blank_certificate count cs.0 row),
-      ),
-      stands_same (ap prepared_bytes (sym same)) (stands_join front r.1 (omega arith)),
-      subst (λ l. cs.1 ≡ at + length (prepared_bytes l)) (sym same) (omega (arith, r.2)),
+      (omega (arith, leb-true count 8 low), row_all (RightCertificate n) count cs.0 row),
+      stands_join front r.1 (omega arith),
+      omega (arith, r.2),
     ))))
 
-prepared_on : (n : ℕ) → n ≤ 10 → (bs : List ℕ) (at : ℕ) (few : Few Certificate 8) → RightPrepared n few → Stands bs at (few_bytes few) → prepared_at n bs at ≡ Ok (few, at + length (few_bytes few))
+prepared_on : (n : ℕ) → n ≤ 10 → (bs : List ℕ) (at : ℕ) (few : ArrayVec Certificate) → RightPrepared n few → Stands bs at (few_bytes few) → prepared_at n bs at ≡ Ok (few, at + length (few_bytes few))
 unfolding prepared_bytes
-prepared_on n ten bs at few h s = go (listed few) h.0 h.1 h.2 s
-  where
-    go : (cs : List Certificate) → few ≡ filled blank_certificate 8 cs → length cs ≤ 8 → AllByRecursion (RightCertificate n) cs → Stands bs at (prepared_bytes cs) → prepared_at n bs at ≡ Ok (few, at + length (prepared_bytes cs))
-    go cs packed low right s =
-        let l₁ = put_length 1 (length cs) in
-        let m = length-append (put 1 (length cs)) (flat_map certificate_bytes cs) in
-        let count = stands_left (put 1 (length cs)) (flat_map certificate_bytes cs) s in
-        let rest = stands_right (put 1 (length cs)) (flat_map certificate_bytes cs) (at + 1) (omega arith) s in
-        let end : at + 1 + length (flat_map certificate_bytes cs) ≡ at + length (put 1 (length cs) ++ flat_map certificate_bytes cs) = omega arith in
-        let row = all_row (RightCertificate n) (length cs) cs refl right in
-        then_on _ (number_on 1 bs at (length cs) (omega arith) count)
-        (check_on at (le-leb (length cs) 8 low)
-        (then_on _ (several_on bs (listed_at n bs) certificate_bytes (λ i. RightCertificate n) (listed_on n ten bs) blank_certificate (length cs) (at + 1) cs row rest)
-        (cc)))
+prepared_on n ten bs at few h s =
+    let cs : List Certificate = few.items in
+    let low : length cs ≤ 8 = h.0 in
+    let l₁ = put_length 1 (length cs) in
+    let m = length-append (put 1 (length cs)) (flat_map certificate_bytes cs) in
+    let t = put_split 1 (length cs) (flat_map certificate_bytes cs) (at + 1) refl s in
+    let end : at + 1 + length (flat_map certificate_bytes cs) ≡ at + length (put 1 (length cs) ++ flat_map certificate_bytes cs) = omega arith in
+    let row = all_row (RightCertificate n) (length cs) cs refl h.1 in
+    then_on _ (number_on 1 bs at (length cs) (omega arith) t.0)
+    (check_on at (le-leb (length cs) 8 low)
+    (then_on _ (several_on bs (listed_at n bs) certificate_bytes (λ i. RightCertificate n) (listed_on n ten bs) (length cs) (at + 1) cs row t.1)
+    (ap (λ k. Ok (few, k)) end)))
 
-pub head_length : (m : Mark) (sender : ℕ) → length (head_bytes m sender) ≡ 3
-unfolding head_bytes mark_bytes
-head_length m sender = simp (length-append, put_length)
+-- what a view state's seal covers, and the whole of it
+body_length : (s : ViewState) → length (state_body s) ≡ 7 + length (commit_bytes s.commit) + length (few_bytes s.prepared)
+unfolding state_body
+body_length s = simp (length-append, head_length, put_length) (omega arith)
+
+pub state_length : (s : ViewState) → length (state_bytes s) ≡ 15 + length (commit_bytes s.commit) + length (few_bytes s.prepared)
+unfolding state_bytes
+state_length s = omega (arith, body_length s, sealed_length (state_body s) s.seal)
 
 pub state_back : (n : ℕ) → n ≤ 10 → (bs : List ℕ) → Bytes bs → (at : ℕ) (s : ViewState) (end : ℕ) → state_at n bs at ≡ Ok (s, end) → Got bs at state_bytes (RightState n) (s, end)
-unfolding state_bytes state_body head_bytes mark_bytes
+unfolding state_bytes state_body mark_bytes
 state_back n ten bs all at s end e =
     then_by (number_at 2 bs at) _ e (λ letter read-letter e₁.
     check_by (eqb letter (letters mark.ViewState)) at _ e₁ (λ is e₂.
@@ -131,73 +121,41 @@ state_back n ten bs all at s end e =
     let d = prepared_back n ten bs all commit.1 prepared.0 prepared.1 read-prepared in
     let f = number_back 8 bs prepared.1 seal all read-seal in
     subst (Got bs at state_bytes (RightState n)) (ok_same e₇)
-    (made sender view commit.0 prepared.0 seal commit.1 prepared.1 letters-there a b c d f))))))))
+    (made (record { sender = sender; view = view; commit = commit.0; prepared = prepared.0; seal = seal }) commit.1 prepared.1 letters-there a b c d f))))))))
   where
-    made : (sender view : ℕ) (commit : Option Certificate) (prepared : Few Certificate 8) (seal mid far : ℕ) → Stands bs at (put 2 (letters mark.ViewState)) → Fits 1 sender × Stands bs (at + 2) (put 1 sender) → (0 ≤ view) × (view ≤ 999999) × Stands bs (at + 3) (put 4 view) → Got bs (at + 7) commit_bytes (RightCommit n) (commit, mid) → Got bs mid few_bytes (RightPrepared n) (prepared, far) → Fits 8 seal × Stands bs far (put 8 seal) → Got bs at state_bytes (RightState n) (record { sender = sender; view = view; commit = commit; prepared = prepared; seal = seal }, far + 8)
-    made sender view commit prepared seal mid far t a b c d f =
-        let l₂ = put_length 2 (letters mark.ViewState) in
-        let l₁ = put_length 1 sender in
-        let l₄ = put_length 4 view in
-        let l₈ = put_length 8 seal in
-        let l₃ = length-append (put 2 (letters mark.ViewState)) (put 1 sender) in
-        let body₁ = length-append (commit_bytes commit) (few_bytes prepared) in
-        let body₂ = length-append (put 4 view) (commit_bytes commit ++ few_bytes prepared) in
-        let body₃ = length-append (put 2 (letters mark.ViewState) ++ put 1 sender) (put 4 view ++ (commit_bytes commit ++ few_bytes prepared)) in
-        let body₄ = length-append ((put 2 (letters mark.ViewState) ++ put 1 sender) ++ (put 4 view ++ (commit_bytes commit ++ few_bytes prepared))) (put 8 seal) in
-        let cm = c.2 in
-        let df = d.2 in (
+    made : (s : ViewState) (mid far : ℕ) → Stands bs at (put 2 (letters mark.ViewState)) → Fits 1 s.sender × Stands bs (at + 2) (put 1 s.sender) → (0 ≤ s.view) × (s.view ≤ 999999) × Stands bs (at + 3) (put 4 s.view) → Got bs (at + 7) commit_bytes (RightCommit n) (s.commit, mid) → Got bs mid few_bytes (RightPrepared n) (s.prepared, far) → Fits 8 s.seal × Stands bs far (put 8 s.seal) → Got bs at state_bytes (RightState n) (s, far + 8)
+    made s mid far t a b c d f =
+        let rest = put_join 4 s.view b.2 (stands_join c.1 d.1 c.2) (omega arith) in (
           record {
             sender_fits = a.0;
             view_high = b.1;
             commit_right = c.0;
-            prepared_packed = d.0.0;
-            prepared_few = d.0.1;
-            prepared_right = d.0.2;
+            prepared_few = d.0.0;
+            prepared_right = d.0.1;
             seal_fits = f.0;
           },
-          stands_join
-              (stands_join (stands_join t a.1 (omega arith)) (stands_join b.2 (stands_join c.1 d.1 cm) (omega arith)) (omega arith))
-              f.1 (omega arith),
-          omega arith,
+          stands_join (head_join mark.ViewState s.sender t a.1 rest) f.1 (omega (arith, body_length s, c.2, d.2)),
+          omega (arith, state_length s, c.2, d.2),
         )
 
 pub state_on : (n : ℕ) → n ≤ 10 → (bs : List ℕ) (at : ℕ) (s : ViewState) → RightState n s → Stands bs at (state_bytes s) → state_at n bs at ≡ Ok (s, at + length (state_bytes s))
-unfolding state_bytes state_body head_bytes mark_bytes
+unfolding state_bytes state_body mark_bytes
 state_on n ten bs at s h st =
-    let m : List ℕ = put 2 (letters mark.ViewState) in
-    let i : List ℕ = put 1 s.sender in
-    let v : List ℕ = put 4 s.view in
     let c : List ℕ = commit_bytes s.commit in
     let p : List ℕ = few_bytes s.prepared in
-    let z : List ℕ = put 8 s.seal in
-    let l₂ : length m ≡ 2 = put_length 2 (letters mark.ViewState) in
-    let l₁ : length i ≡ 1 = put_length 1 s.sender in
-    let l₄ : length v ≡ 4 = put_length 4 s.view in
-    let l₈ : length z ≡ 8 = put_length 8 s.seal in
-    let l₃ : length (m ++ i) ≡ length m + length i = length-append m i in
-    let body₁ : length (c ++ p) ≡ length c + length p = length-append c p in
-    let body₂ : length (v ++ (c ++ p)) ≡ length v + length (c ++ p) = length-append v (c ++ p) in
-    let body₃ : length ((m ++ i) ++ (v ++ (c ++ p))) ≡ length (m ++ i) + length (v ++ (c ++ p)) = length-append (m ++ i) (v ++ (c ++ p)) in
-    let body₄ : length (((m ++ i) ++ (v ++ (c ++ p))) ++ z) ≡ length ((m ++ i) ++ (v ++ (c ++ p))) + length z = length-append ((m ++ i) ++ (v ++ (c ++ p))) z in
     let mid : ℕ = (at + 7) + length c in
     let far : ℕ = mid + length p in
-    let body = stands_left ((m ++ i) ++ (v ++ (c ++ p))) z st in
-    let seal = stands_right ((m ++ i) ++ (v ++ (c ++ p))) z far (omega arith) st in
-    let head = stands_left (m ++ i) (v ++ (c ++ p)) body in
-    let tail = stands_right (m ++ i) (v ++ (c ++ p)) (at + 3) (omega arith) body in
-    let letter = stands_left m i head in
-    let sender = stands_right m i (at + 2) (omega arith) head in
-    let view = stands_left v (c ++ p) tail in
-    let rest = stands_right v (c ++ p) (at + 7) (omega arith) tail in
-    let commit = stands_left c p rest in
-    let prepared = stands_right c p mid refl rest in
-    let end : far + 8 ≡ at + length (((m ++ i) ++ (v ++ (c ++ p))) ++ z) = omega arith in
-    then_on _ (number_on 2 bs at (letters mark.ViewState) (omega arith) letter)
-    (then_on _ (number_on 1 bs (at + 2) s.sender h.sender_fits sender)
-    (then_on _ (view_on 0 999999 bs (at + 3) s.view (omega arith) h.view_high (omega arith) view)
-    (then_on _ (commit_on n ten bs (at + 7) s.commit h.commit_right commit)
-    (then_on _ (prepared_on n ten bs mid s.prepared (h.prepared_packed, h.prepared_few, h.prepared_right) prepared)
-    (then_on _ (number_on 8 bs far s.seal h.seal_fits seal)
+    let whole = stands_split (state_body s) (put 8 s.seal) far (omega (arith, body_length s)) st in
+    let t = head_split mark.ViewState s.sender (put 4 s.view ++ (c ++ p)) whole.0 in
+    let view = put_split 4 s.view (c ++ p) (at + 7) (omega arith) t.2 in
+    let rest = stands_split c p mid refl view.1 in
+    let end : far + 8 ≡ at + length (state_bytes s) = omega (arith, state_length s) in
+    then_on _ (number_on 2 bs at (letters mark.ViewState) (omega arith) t.0)
+    (then_on _ (number_on 1 bs (at + 2) s.sender h.sender_fits t.1)
+    (then_on _ (view_on 0 999999 bs (at + 3) s.view (omega arith) h.view_high (omega arith) view.0)
+    (then_on _ (commit_on n ten bs (at + 7) s.commit h.commit_right rest.0)
+    (then_on _ (prepared_on n ten bs mid s.prepared (h.prepared_few, h.prepared_right) rest.1)
+    (then_on _ (number_on 8 bs far s.seal h.seal_fits whole.1)
     (ap (λ k. Ok (s, k)) end))))))
 
 -- one of several view states

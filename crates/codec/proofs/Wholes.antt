@@ -1,9 +1,10 @@
 -- The laws of reading and writing whole records. Assumes nothing.
-use Rattle.std.proofs.Common.{◌≡◌, ℕ, ◌≤◌, eqb, List, ◌++◌, length, take, Ok, sym, refl, ap, ◌∙◌, subst, zero-add, arith}
+use Rattle.std.proofs.Common.{◌≡◌, ℕ, ◌≤◌, eqb, List, ◌++◌, length, take, Ok, Result, sym, refl, ap, ◌∙◌, subst, zero-add, arith}
 use Rattle.std.proofs.lemmas.List.{take_all}
 use Rattle.std.proofs.lemmas.Bool.{eqb-true, eq-eqb}
+use Rattle.quorum.specs.declared.refusal.Fault.{Fault}
 use Rattle.records.specs.Range.{Bytes, RightRequest, RightInform, RightArrival, RightRecord}
-use Rattle.records.specs.Reading.{mark_at, request_behind, inform_behind, arrival_behind, record_behind, first_of, whole}
+use Rattle.records.specs.Reading.{◌then◌, sent, mark_at, request_behind, inform_behind, arrival_behind, record_behind, first_of, whole}
 use Rattle.records.specs.Writing.{mark_bytes, arrival_bytes, record_bytes}
 use Rattle.records.specs.declared.marks.Mark.{Mark}
 use Rattle.records.specs.declared.marks.Mark.TheVariants as mark
@@ -13,7 +14,7 @@ use Rattle.records.specs.declared.arrivals.Record.{Record}
 use Rattle.records.specs.declared.arrivals.Record.TheVariants as rec
 use Rattle.codec.specs.Standing.{Stands}
 use Rattle.codec.specs.Laws.{FirstBack, RecordBack, ArrivalBack, RequestBack, InformBack, FirstReads, RecordReads, ArrivalReads, RequestReads, InformReads}
-use Rattle.codec.proofs.Standing.{stands_first}
+use Rattle.codec.proofs.Standing.{stands_first, stands_whole}
 use Rattle.codec.proofs.Steps.{ok_same, then_by, then_on, check_by, check_on}
 use Rattle.codec.proofs.Rows.{Got}
 use Rattle.codec.proofs.Marks.{mark_back, mark_on}
@@ -37,8 +38,12 @@ whole_back w Right bs got x g e =
 whole_on : {A : Type 0} (bs : List ℕ) (x : A) → whole bs (x, length bs) ≡ Ok x
 whole_on bs x = check_on (length bs) (eq-eqb (length bs) (length bs) refl) refl
 
-stands_whole : (xs : List ℕ) → Stands xs 0 xs
-stands_whole xs = record { inside = omega arith; there = take_all (length xs) xs (omega arith) }
+-- what stations send each other, as a record
+sent_back : (n : ℕ) → n ≤ 10 → (bs : List ℕ) → Bytes bs → (m : Mark) (r : Record) (end : ℕ) → Stands bs 0 (mark_bytes m) → sent (arrival_behind n bs m) ≡ Ok (r, end) → Got bs 0 record_bytes (RightRecord n) (r, end)
+unfolding record_bytes
+sent_back n ten bs all m r end t e =
+    then_by (arrival_behind n bs m) _ e (λ q read e₁.
+    subst (Got bs 0 record_bytes (RightRecord n)) (ok_same e₁) (arrival_behind_back n ten bs all m q.0 q.1 t read))
 
 -- any record behind its mark
 record_behind_back : (n : ℕ) → n ≤ 10 → (bs : List ℕ) → Bytes bs → (m : Mark) (r : Record) (end : ℕ) → Stands bs 0 (mark_bytes m) → record_behind n bs m ≡ Ok (r, end) → Got bs 0 record_bytes (RightRecord n) (r, end)
@@ -49,24 +54,12 @@ record_behind_back n ten bs all mark.Request r end t e =
 record_behind_back n ten bs all mark.Inform r end t e =
     then_by (inform_behind bs mark.Inform) _ e (λ q read e₁.
     subst (Got bs 0 record_bytes (RightRecord n)) (ok_same e₁) (inform_behind_back bs all mark.Inform q.0 q.1 t read))
-record_behind_back n ten bs all mark.Propose r end t e =
-    then_by (arrival_behind n bs mark.Propose) _ e (λ q read e₁.
-    subst (Got bs 0 record_bytes (RightRecord n)) (ok_same e₁) (arrival_behind_back n ten bs all mark.Propose q.0 q.1 t read))
-record_behind_back n ten bs all mark.Prepare r end t e =
-    then_by (arrival_behind n bs mark.Prepare) _ e (λ q read e₁.
-    subst (Got bs 0 record_bytes (RightRecord n)) (ok_same e₁) (arrival_behind_back n ten bs all mark.Prepare q.0 q.1 t read))
-record_behind_back n ten bs all mark.CheckCommit r end t e =
-    then_by (arrival_behind n bs mark.CheckCommit) _ e (λ q read e₁.
-    subst (Got bs 0 record_bytes (RightRecord n)) (ok_same e₁) (arrival_behind_back n ten bs all mark.CheckCommit q.0 q.1 t read))
-record_behind_back n ten bs all mark.Failure r end t e =
-    then_by (arrival_behind n bs mark.Failure) _ e (λ q read e₁.
-    subst (Got bs 0 record_bytes (RightRecord n)) (ok_same e₁) (arrival_behind_back n ten bs all mark.Failure q.0 q.1 t read))
-record_behind_back n ten bs all mark.ViewState r end t e =
-    then_by (arrival_behind n bs mark.ViewState) _ e (λ q read e₁.
-    subst (Got bs 0 record_bytes (RightRecord n)) (ok_same e₁) (arrival_behind_back n ten bs all mark.ViewState q.0 q.1 t read))
-record_behind_back n ten bs all mark.NewView r end t e =
-    then_by (arrival_behind n bs mark.NewView) _ e (λ q read e₁.
-    subst (Got bs 0 record_bytes (RightRecord n)) (ok_same e₁) (arrival_behind_back n ten bs all mark.NewView q.0 q.1 t read))
+record_behind_back n ten bs all mark.Propose r end t e = sent_back n ten bs all mark.Propose r end t e
+record_behind_back n ten bs all mark.Prepare r end t e = sent_back n ten bs all mark.Prepare r end t e
+record_behind_back n ten bs all mark.CheckCommit r end t e = sent_back n ten bs all mark.CheckCommit r end t e
+record_behind_back n ten bs all mark.Failure r end t e = sent_back n ten bs all mark.Failure r end t e
+record_behind_back n ten bs all mark.ViewState r end t e = sent_back n ten bs all mark.ViewState r end t e
+record_behind_back n ten bs all mark.NewView r end t e = sent_back n ten bs all mark.NewView r end t e
 
 -- the mark of a record
 abbrev record_kind : Record → Mark
@@ -103,26 +96,22 @@ record_back n low ten bs all r e =
     whole_back record_bytes (RightRecord n) bs got r
     (record_behind_back n ten bs all m got.0 got.1 (mark_back bs all m read-m) read) e₂))
 
-pub arrival_back : ArrivalBack
-arrival_back n low ten bs all a e =
+-- one record and no more, behind its mark
+only_back : {A : Type 0} (behind : Mark → Result (A × ℕ) Fault) (w : A → List ℕ) (Right : A → Type 0) (bs : List ℕ) → Bytes bs → ((m : Mark) (x : A) (end : ℕ) → Stands bs 0 (mark_bytes m) → behind m ≡ Ok (x, end) → Got bs 0 w Right (x, end)) → (x : A) → (mark_at bs then (λ m. behind m then (λ got. whole bs got))) ≡ Ok x → Right x × (w x ≡ bs)
+only_back behind w Right bs all back x e =
     then_by (mark_at bs) _ e (λ m read-m e₁.
-    then_by (arrival_behind n bs m) _ e₁ (λ got read e₂.
-    whole_back arrival_bytes (RightArrival n) bs got a
-    (arrival_behind_back n ten bs all m got.0 got.1 (mark_back bs all m read-m) read) e₂))
+    then_by (behind m) _ e₁ (λ got read e₂.
+    whole_back w Right bs got x (back m got.0 got.1 (mark_back bs all m read-m) read) e₂))
+
+pub arrival_back : ArrivalBack
+arrival_back n low ten bs all =
+    only_back (arrival_behind n bs) arrival_bytes (RightArrival n) bs all (arrival_behind_back n ten bs all)
 
 pub request_back : RequestBack
-request_back bs all r e =
-    then_by (mark_at bs) _ e (λ m read-m e₁.
-    then_by (request_behind bs m) _ e₁ (λ got read e₂.
-    whole_back asking_bytes RightRequest bs got r
-    (request_behind_back bs all m got.0 got.1 (mark_back bs all m read-m) read) e₂))
+request_back bs all = only_back (request_behind bs) asking_bytes RightRequest bs all (request_behind_back bs all)
 
 pub inform_back : InformBack
-inform_back bs all i e =
-    then_by (mark_at bs) _ e (λ m read-m e₁.
-    then_by (inform_behind bs m) _ e₁ (λ got read e₂.
-    whole_back telling_bytes RightInform bs got i
-    (inform_behind_back bs all m got.0 got.1 (mark_back bs all m read-m) read) e₂))
+inform_back bs all = only_back (inform_behind bs) telling_bytes RightInform bs all (inform_behind_back bs all)
 
 pub first_reads : FirstReads
 first_reads n low ten r rest h =
@@ -136,17 +125,20 @@ record_reads n low ten r h =
     then_on _ (mark_on (record_bytes r) (record_kind r) b.0) b.1 in
     then_on _ first (whole_on (record_bytes r) r)
 
+only_reads : {A : Type 0} (behind : Mark → Result (A × ℕ) Fault) (bs : List ℕ) (x : A) (m : Mark) → Stands bs 0 (mark_bytes m) × (behind m ≡ Ok (x, length bs)) → (mark_at bs then (λ m. behind m then (λ got. whole bs got))) ≡ Ok x
+only_reads behind bs x m b = then_on _ (mark_on bs m b.0) (then_on _ b.1 (whole_on bs x))
+
 pub arrival_reads : ArrivalReads
 arrival_reads n low ten a h =
-    let b = arrival_behind_on n ten (arrival_bytes a) a h (stands_whole (arrival_bytes a)) in
-    then_on _ (mark_on (arrival_bytes a) (kind a) b.0) (then_on _ b.1 (whole_on (arrival_bytes a) a))
+    let bs : List ℕ = arrival_bytes a in
+    only_reads (arrival_behind n bs) bs a (kind a) (arrival_behind_on n ten bs a h (stands_whole bs))
 
 pub request_reads : RequestReads
 request_reads r h =
-    let b = request_behind_on (asking_bytes r) r h (stands_whole (asking_bytes r)) in
-    then_on _ (mark_on (asking_bytes r) mark.Request b.0) (then_on _ b.1 (whole_on (asking_bytes r) r))
+    let bs : List ℕ = asking_bytes r in
+    only_reads (request_behind bs) bs r mark.Request (request_behind_on bs r h (stands_whole bs))
 
 pub inform_reads : InformReads
 inform_reads i h =
-    let b = inform_behind_on (telling_bytes i) i h (stands_whole (telling_bytes i)) in
-    then_on _ (mark_on (telling_bytes i) mark.Inform b.0) (then_on _ b.1 (whole_on (telling_bytes i) i))
+    let bs : List ℕ = telling_bytes i in
+    only_reads (inform_behind bs) bs i mark.Inform (inform_behind_on bs i h (stands_whole bs))

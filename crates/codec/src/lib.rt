@@ -7,56 +7,44 @@ ghost use Rattle.codec.specs.Laws.{SaysOne, RightSaid, CoveredFirst, CoveredLeng
 ghost use Rattle.codec.specs.Laws.{FiguresAre, CertificateSizeFour, CertificateLength, ViewMost, ViewLargest};
 
 // Bytes that are read as a record are in range, and are the bytes of that record.
-pub fn reading_writes_back() -> u8
+pub fn reading_writes_back()
     ensures first { FirstBack }
     ensures whole { RecordBack }
     ensures arriving { ArrivalBack }
     ensures asked { RequestBack }
     ensures told { InformBack }
-{
-    0
-}
+{}
 
 // A record in range is read back from its bytes.
-pub fn writing_reads_back() -> u8
+pub fn writing_reads_back()
     ensures first { FirstReads }
     ensures whole { RecordReads }
     ensures arriving { ArrivalReads }
     ensures asked { RequestReads }
     ensures told { InformReads }
-{
-    0
-}
+{}
 
 // The bytes that a seal covers say one thing, and what a record in range says is in range.
-pub fn seals_say_one() -> u8
+pub fn seals_say_one()
     ensures one { SaysOne }
     ensures right { RightSaid }
-{
-    0
-}
+{}
 
 // What a seal covers comes first in its record.
-pub fn seals_cover_the_first() -> u8
+pub fn seals_cover_the_first()
     ensures first { CoveredFirst }
     ensures long { CoveredLength }
-{
-    0
-}
+{}
 
 // Faults, quorums and the size of a certificate.
-pub fn figures_are() -> u8
+pub fn figures_are()
     ensures counts { FiguresAre }
     ensures four { CertificateSizeFour }
     ensures certificates { CertificateLength }
-{
-    0
-}
+{}
 
 // No new view is longer than 6,183 bytes, and one has as many.
-pub fn largest_view() -> u8
+pub fn largest_view()
     ensures most { ViewMost }
     ensures largest { ViewLargest }
-{
-    0
-}
+{}

@@ -9,8 +9,6 @@ pub mod refusal;
 
 // Any two quorums of a ring share a station that is not bad, for every number of stations and every set of at most f bad
 // ones.
-pub fn quorums_share() -> u8
+pub fn quorums_share()
     ensures { QuorumsShare }
-{
-    0
-}
+{}

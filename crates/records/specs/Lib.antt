@@ -1,6 +1,4 @@
 pub mod Numbers
-pub mod Lists
-pub mod Blanks
 pub mod Marks
 pub mod Writing
 pub mod Reading
@@ -8,3 +6,4 @@ pub mod Places
 pub mod Chain
 pub mod Range
 pub mod Statements
+pub mod Said

@@ -5,17 +5,14 @@ use Rattle.quorum.specs.declared.refusal.Fault.{Fault}
 use Rattle.quorum.specs.declared.refusal.Fault.TheVariants.{Unreadable, WrongSender}
 use Rattle.quorum.specs.Figures.{quorum_of}
 use Rattle.records.specs.Numbers.{number_of, shows}
-use Rattle.records.specs.Lists.{filled}
 use Rattle.records.specs.Marks.{mark_of, letters}
-use Rattle.records.specs.Blanks.{blank_certificate, blank_state}
-use Rattle.records.specs.declared.few.Few.{Few}
+use Rattle.arrayvec.specs.ArrayVec.{ArrayVec}
 use Rattle.records.specs.declared.marks.Mark.{Mark}
 use Rattle.records.specs.declared.marks.Mark.TheVariants as mark
 use Rattle.records.specs.declared.request.Request.{Request}
 use Rattle.records.specs.declared.request.Proposal.{Proposal}
 use Rattle.records.specs.declared.certificate.Certificate.{Certificate}
-use Rattle.records.specs.declared.arrivals.Propose.{Propose}
-use Rattle.records.specs.declared.arrivals.Prepare.{Prepare}
+use Rattle.records.specs.declared.arrivals.Claim.{Claim}
 use Rattle.records.specs.declared.arrivals.CheckCommit.{CheckCommit}
 use Rattle.records.specs.declared.arrivals.Inform.{Inform}
 use Rattle.records.specs.declared.arrivals.Failure.{Failure}
@@ -109,12 +106,12 @@ abbrev pub listed_at : ℕ → List ℕ → ℕ → ℕ → Result (Certificate 
 listed_at n bs i at = certificate_at n bs at then (λ c. Ok (c, at + certificate_size n))
 
 -- so many certificates, one after another
-abbrev pub gathered_at : ℕ → List ℕ → ℕ → ℕ → Result (Few Certificate 8 × ℕ) Fault
+abbrev pub gathered_at : ℕ → List ℕ → ℕ → ℕ → Result (ArrayVec Certificate × ℕ) Fault
 gathered_at n bs at count =
-    several (listed_at n bs) at count then (λ cs. Ok (filled blank_certificate 8 cs.0, cs.1))
+    several (listed_at n bs) at count then (λ cs. Ok (record { items = cs.0 }, cs.1))
 
 -- a count of 0 to 8, and that many certificates
-abbrev pub prepared_at : ℕ → List ℕ → ℕ → Result (Few Certificate 8 × ℕ) Fault
+abbrev pub prepared_at : ℕ → List ℕ → ℕ → Result (ArrayVec Certificate × ℕ) Fault
 prepared_at n bs at =
     number_at 1 bs at then (λ count. check (nat_le count 8) at (gathered_at n bs (at + 1) count))
 
@@ -133,15 +130,8 @@ state_at n bs at =
     ))))))))
 
 -- a sender and its proposal, after the mark: what a Propose and a Prepare hold
-abbrev pub propose_in : List ℕ → Result Propose Fault
-propose_in bs =
-    number_at 1 bs 2 then (λ sender.
-    proposal_at bs 3 then (λ proposal.
-    number_at 8 bs 41 then (λ seal.
-    Ok (record { sender = sender; proposal = proposal; seal = seal }))))
-
-abbrev pub prepare_in : List ℕ → Result Prepare Fault
-prepare_in bs =
+abbrev pub claim_in : List ℕ → Result Claim Fault
+claim_in bs =
     number_at 1 bs 2 then (λ sender.
     proposal_at bs 3 then (λ proposal.
     number_at 8 bs 41 then (λ seal.
@@ -174,9 +164,9 @@ abbrev pub member_at : ℕ → List ℕ → ℕ → ℕ → Result (ViewState ×
 member_at n bs i at = state_at n bs at
 
 -- so many view states, one after another
-abbrev pub members_at : ℕ → List ℕ → ℕ → ℕ → Result (Few ViewState 7 × ℕ) Fault
+abbrev pub members_at : ℕ → List ℕ → ℕ → ℕ → Result (ArrayVec ViewState × ℕ) Fault
 members_at n bs at count =
-    several (member_at n bs) at count then (λ states. Ok (filled blank_state 7 states.0, states.1))
+    several (member_at n bs) at count then (λ states. Ok (record { items = states.0 }, states.1))
 
 -- a new view, with the place after it; its count is the ring's quorum
 abbrev pub new_view_in : ℕ → List ℕ → Result (NewView × ℕ) Fault
@@ -228,8 +218,8 @@ inform_behind bs mark.NewView = refused_mark
 -- what stations send each other
 abbrev pub arrival_behind : ℕ → List ℕ → Mark → Result (Arrival × ℕ) Fault
 arrival_behind n bs mark.Request = refused_mark
-arrival_behind n bs mark.Propose = propose_in bs then (λ p. Ok (arrival.Propose p, 49))
-arrival_behind n bs mark.Prepare = prepare_in bs then (λ p. Ok (arrival.Prepare p, 49))
+arrival_behind n bs mark.Propose = claim_in bs then (λ p. Ok (arrival.Propose p, 49))
+arrival_behind n bs mark.Prepare = claim_in bs then (λ p. Ok (arrival.Prepare p, 49))
 arrival_behind n bs mark.CheckCommit =
     check_commit_in n bs then (λ c. Ok (arrival.CheckCommit c, 11 + certificate_size n))
 arrival_behind n bs mark.Inform = refused_mark

@@ -2,7 +2,6 @@
 use Rattle.std.specs.Prelude.{ℕ, List, [], ◌++◌, length, Some, None, Option}
 use Rattle.std.specs.List.{flat_map}
 use Rattle.records.specs.Numbers.{put, mask_of}
-use Rattle.records.specs.Lists.{listed}
 use Rattle.records.specs.Marks.{letters}
 use Rattle.records.specs.declared.marks.Mark.{Mark}
 use Rattle.records.specs.declared.marks.Mark.TheVariants as mark
@@ -61,7 +60,7 @@ prepared_bytes cs = put 1 (length cs) ++ flat_map certificate_bytes cs
 unfoldable pub state_body : ViewState → List ℕ
 state_body s =
     head_bytes mark.ViewState s.sender
-    ++ (put 4 s.view ++ (commit_bytes s.commit ++ prepared_bytes (listed s.prepared)))
+    ++ (put 4 s.view ++ (commit_bytes s.commit ++ prepared_bytes s.prepared.items))
 
 unfoldable pub state_bytes : ViewState → List ℕ
 state_bytes s = state_body s ++ put 8 s.seal
@@ -75,7 +74,7 @@ unfoldable pub states_bytes : List ViewState → List ℕ
 states_bytes ss = put 1 (length ss) ++ flat_map state_bytes ss
 
 unfoldable pub new_view_body : NewView → List ℕ
-new_view_body v = head_bytes mark.NewView v.sender ++ (put 4 v.view ++ states_bytes (listed v.states))
+new_view_body v = head_bytes mark.NewView v.sender ++ (put 4 v.view ++ states_bytes v.states.items)
 
 -- a check commit is a claim with the seals of its certificate
 unfoldable pub check_commit_body : CheckCommit → List ℕ
@@ -93,6 +92,15 @@ body_bytes (arrival.CheckCommit c) = check_commit_body c
 body_bytes (arrival.Failure f) = failure_body f
 body_bytes (arrival.ViewState s) = state_body s
 body_bytes (arrival.NewView v) = new_view_body v
+
+-- the station that sent a record
+abbrev pub sent_by : Arrival → ℕ
+sent_by (arrival.Propose p) = p.sender
+sent_by (arrival.Prepare p) = p.sender
+sent_by (arrival.CheckCommit c) = c.sender
+sent_by (arrival.Failure f) = f.sender
+sent_by (arrival.ViewState s) = s.sender
+sent_by (arrival.NewView v) = v.sender
 
 -- the seal of a record
 abbrev pub seal_of : Arrival → ℕ

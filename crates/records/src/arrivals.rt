@@ -1,26 +1,24 @@
 // The records that stations send, and all records together.
 use crate::certificate::Certificate;
-use crate::few::Few;
 use crate::request::{Proposal, Request};
+use arrayvec::ArrayVec;
+
+// A station's word on a proposal. The kind of its record says which.
+#[derive(Clone, Copy, PartialEq, Eq, Debug, Default)]
+pub struct Claim {
+    pub sender: u8,
+    pub proposal: Proposal,
+    pub seal: u64,
+}
 
 // The primary's proposal.
-#[derive(Clone, Copy)]
-pub struct Propose {
-    pub sender: u8,
-    pub proposal: Proposal,
-    pub seal: u64,
-}
+pub type Propose = Claim;
 
 // A station's support of a proposal.
-#[derive(Clone, Copy)]
-pub struct Prepare {
-    pub sender: u8,
-    pub proposal: Proposal,
-    pub seal: u64,
-}
+pub type Prepare = Claim;
 
 // A station's word that it executed a prepared proposal; the seal covers the proposal, not the certificate's seals.
-#[derive(Clone, Copy)]
+#[derive(Clone, Copy, PartialEq, Eq, Debug, Default)]
 pub struct CheckCommit {
     pub sender: u8,
     pub prepared: Certificate,
@@ -28,7 +26,7 @@ pub struct CheckCommit {
 }
 
 // A station's word to the client: the request stands at this view and round and has this result.
-#[derive(Clone, Copy)]
+#[derive(Clone, Copy, PartialEq, Eq, Debug, Default)]
 pub struct Inform {
     pub sender: u8,
     pub proposal: Proposal,
@@ -37,7 +35,7 @@ pub struct Inform {
 }
 
 // A station's alert that a view fails.
-#[derive(Clone, Copy)]
+#[derive(Clone, Copy, PartialEq, Eq, Debug, Default)]
 pub struct Failure {
     pub sender: u8,
     pub view: u32,
@@ -45,40 +43,26 @@ pub struct Failure {
 }
 
 // What a station holds as it leaves a view: its last commit and the prepared lines above it.
-#[derive(Clone, Copy)]
+#[derive(Drop, Default)]
 pub struct ViewState {
     pub sender: u8,
     pub view: u32,
     pub commit: Option<Certificate>,
-    pub prepared: Few<Certificate, 8>,
+    pub prepared: ArrayVec<Certificate, 8>,
     pub seal: u64,
 }
 
-impl ViewState {
-    // what fills a place that holds no view state
-    pub const BLANK: ViewState = ViewState {
-        sender: 0,
-        view: 0,
-        commit: None,
-        prepared: Few {
-            items: [Certificate::BLANK; 8],
-            len: 0,
-        },
-        seal: 0,
-    };
-}
-
 // The next primary's start of a view, from a quorum of view states.
-#[derive(Clone, Copy)]
+#[derive(Drop, Default)]
 pub struct NewView {
     pub sender: u8,
     pub view: u32,
-    pub states: Few<ViewState, 7>,
+    pub states: ArrayVec<ViewState, 7>,
     pub seal: u64,
 }
 
 // What may arrive at a station from another.
-#[derive(Clone, Copy)]
+#[derive(Drop)]
 pub enum Arrival {
     Propose(Propose),
     Prepare(Prepare),
@@ -89,7 +73,7 @@ pub enum Arrival {
 }
 
 // Any record: a client's request, an answer to a client, or what stations send each other.
-#[derive(Clone, Copy)]
+#[derive(Drop)]
 pub enum Record {
     Request(Request),
     Inform(Inform),
@@ -97,3 +81,4 @@ pub enum Record {
 }
 
 pub mod seals;
+pub mod senders;

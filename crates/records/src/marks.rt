@@ -1,6 +1,6 @@
 // The two letters that each record begins with.
-ghost use Rattle.std.specs.Prelude.{◌≡◌};
-ghost use Rattle.records.specs.Marks.{letters};
+ghost use Rattle.std.specs.Prelude.{◌≡◌, MatchResult, Some, None};
+ghost use Rattle.records.specs.Marks.{letters, mark_of};
 
 // the letters, as the number that they write
 pub const RQ: u16 = 0x5251;
@@ -31,11 +31,15 @@ pub enum Mark {
     NewView,
 }
 
-impl Mark {
-    pub fn letters(self) -> u16
-        ensures { result ≡ letters self }
-    {
-        match self {
+// Two letters that no record begins with.
+#[derive(Clone, Copy, PartialEq, Eq, Debug)]
+pub struct UnknownMark;
+
+impl From<Mark> for u16 {
+    ghost from_gives = { λ mark n. n ≡ letters mark };
+
+    fn from(mark: Mark) -> u16 {
+        match mark {
             Mark::Request => RQ,
             Mark::Propose => PP,
             Mark::Prepare => PE,
@@ -44,6 +48,26 @@ impl Mark {
             Mark::Failure => FA,
             Mark::ViewState => VS,
             Mark::NewView => NV,
+        }
+    }
+}
+
+impl TryFrom<u16> for Mark {
+    type Error = UnknownMark;
+
+    ghost try_from_gives = { λ n r. MatchResult r (λ mark. mark_of n ≡ Some mark) (λ _. mark_of n ≡ None) };
+
+    fn try_from(letters: u16) -> Result<Mark, UnknownMark> {
+        match letters {
+            RQ => Ok(Mark::Request),
+            PP => Ok(Mark::Propose),
+            PE => Ok(Mark::Prepare),
+            CC => Ok(Mark::CheckCommit),
+            IN => Ok(Mark::Inform),
+            FA => Ok(Mark::Failure),
+            VS => Ok(Mark::ViewState),
+            NV => Ok(Mark::NewView),
+            _ => Err(UnknownMark),
         }
     }
 }

@@ -60,7 +60,7 @@ impl ViewState {
         ensures bound { result.end ≤ at + longest_state }
     {
         let prepared = after_commit(ring, at + 7, &self.commit) + 1;
-        let count = self.prepared.as_slice().len();
+        let count = self.prepared.len();
         let seal = prepared + count * certificate_size(ring);
         StatePlaces {
             commit: at + 8,
@@ -68,5 +68,23 @@ impl ViewState {
             seal,
             end: seal + SEAL_SIZE,
         }
+    }
+}
+
+// Where a view state begins in a record of a ring.
+#[derive(Clone, Copy)]
+pub struct StateStart {
+    pub ring: Ring,
+    pub at: usize,
+    ghost room: { at + longest_state ≤ longest_record },
+}
+
+impl StateStart {
+    // The places of a view state that begins here.
+    pub fn places(self, state: &ViewState) -> StatePlaces
+        ensures value { result ≡ places_of (stations_of self.ring) self.at state.now }
+        ensures bound { result.end ≤ self.at + longest_state }
+    {
+        state.places(self.ring, self.at)
     }
 }

@@ -1,6 +1,6 @@
--- The laws that the contract states.
-use Rattle.codec.proofs.Laws.{says_one, right_said}
+-- The law that the contract states.
+use Rattle.codec.proofs.Laws.{says_one}
 use Rattle.codec.proofs.seals_say_one.Goals as goal
 
-pub returns : goal.returns
-returns c = record { one = says_one; right = right_said }
+pub returns-clause-one : goal.returns-clause-one
+returns-clause-one c = says_one
