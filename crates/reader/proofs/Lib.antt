@@ -1,1 +1,3 @@
 pub mod Backs
+pub mod Cursors
+pub mod Seals

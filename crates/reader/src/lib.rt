@@ -3,6 +3,7 @@
 
 mod bodies;
 mod certificates;
+mod cursor;
 mod fields;
 pub mod framing;
 pub mod reading;

@@ -1,156 +1,85 @@
 // Bytes as exactly one record that a call takes.
-ghost use Rattle.std.specs.Prelude.{◌≡◌, ℕ, length, Ok, ◌==◌};
+ghost use Rattle.std.specs.Prelude.{◌≡◌, ℕ, List, Result};
+ghost use Rattle.quorum.specs.declared.refusal.Fault.{Fault};
 ghost use Rattle.quorum.specs.Rings.{stations_of};
-ghost use Rattle.records.specs.Reading.{check, mark_at, request_behind, inform_behind, arrival_behind, record_behind, request_of, inform_of, arrival_of, record_of, first_of};
+ghost use Rattle.records.specs.declared.marks.Mark.{Mark};
+ghost use Rattle.records.specs.Reading.{mark_at, request_behind, inform_behind, arrival_behind, record_behind, request_of, inform_of, arrival_of, record_of, first_of};
 ghost use Rattle.reader.specs.Backs.{RequestFrom, InformFrom, ArrivalFrom, RecordFrom, FirstFrom};
+ghost use Rattle.reader.specs.Cursor.{ReadsFrom, ReadsOnFrom, ReadsBehind, whole_behind};
 
-use crate::bodies::{
-    check_commit_in, failure_in, inform_in, new_view_in, prepare_in, propose_in, state_at,
-};
-use crate::fields::{request_at, u16_at};
+use crate::cursor::Cursor;
 use quorum::figures::Ring;
 use quorum::refusal::Fault;
 use records::arrivals::{Arrival, Inform, Record};
-use records::certificate::sizes::certificate_size;
-use records::marks;
 use records::marks::Mark;
 use records::request::Request;
 
-// where a request, a proposal's record, an inform and a failure end
-const REQUEST_END: usize = 32;
-
-const CLAIM_END: usize = 49;
-
-const INFORM_END: usize = 57;
-
-const FAILURE_END: usize = 15;
-// a check commit's bytes around its certificate
-const CHECK_COMMIT_REST: usize = 11;
-
-fn mark_at(bytes: &[u8]) -> Result<Mark, Fault>
-    ensures { result ≡ mark_at bytes.now }
-{
-    match u16_at(bytes, 0)? {
-        marks::RQ => Ok(Mark::Request),
-        marks::PP => Ok(Mark::Propose),
-        marks::PE => Ok(Mark::Prepare),
-        marks::CC => Ok(Mark::CheckCommit),
-        marks::IN => Ok(Mark::Inform),
-        marks::FA => Ok(Mark::Failure),
-        marks::VS => Ok(Mark::ViewState),
-        marks::NV => Ok(Mark::NewView),
-        _ => Err(Fault::Unreadable(0)),
+impl<'a> Cursor<'a> {
+    // The mark that the bytes begin with.
+    fn mark(&mut self) -> Result<Mark, Fault>
+        ensures { ReadsFrom 0 2 mark_at self.old self.new result }
+    {
+        Mark::try_from(self.u16()?).map_err(|_| Fault::Unreadable(0))
     }
-}
 
-fn request_behind(bytes: &[u8], mark: Mark) -> Result<(Request, usize), Fault>
-    ensures { result ≡ request_behind bytes.now mark }
-{
-    match mark {
-        Mark::Request => Ok((request_at(bytes, 2)?, REQUEST_END)),
-        _ => Err(Fault::Unreadable(0)),
+    fn request_behind(&mut self, mark: Mark) -> Result<Request, Fault>
+        ensures { ReadsOnFrom 2 (λ bs. request_behind bs mark) self.old self.new result }
+    {
+        match mark {
+            Mark::Request => self.request(),
+            _ => Err(Fault::Unreadable(0)),
+        }
     }
-}
 
-fn inform_behind(bytes: &[u8], mark: Mark) -> Result<(Inform, usize), Fault>
-    ensures { result ≡ inform_behind bytes.now mark }
-{
-    match mark {
-        Mark::Inform => Ok((inform_in(bytes)?, INFORM_END)),
-        _ => Err(Fault::Unreadable(0)),
+    fn inform_behind(&mut self, mark: Mark) -> Result<Inform, Fault>
+        ensures { ReadsOnFrom 2 (λ bs. inform_behind bs mark) self.old self.new result }
+    {
+        match mark {
+            Mark::Inform => self.inform(),
+            _ => Err(Fault::Unreadable(0)),
+        }
     }
-}
 
-fn arrival_behind(ring: Ring, bytes: &[u8], mark: Mark) -> Result<(Arrival, usize), Fault>
-    ensures { result ≡ arrival_behind (stations_of ring) bytes.now mark }
-{
-    match mark {
-        Mark::Propose => Ok((Arrival::Propose(propose_in(bytes)?), CLAIM_END)),
-        Mark::Prepare => Ok((Arrival::Prepare(prepare_in(bytes)?), CLAIM_END)),
-        Mark::CheckCommit => {
-            let check = check_commit_in(ring, bytes)?;
-            Ok((
-                Arrival::CheckCommit(check),
-                CHECK_COMMIT_REST + certificate_size(ring),
-            ))
+    fn arrival_behind(&mut self, ring: Ring, mark: Mark) -> Result<Arrival, Fault>
+        ensures { ReadsOnFrom 2 (λ bs. arrival_behind (stations_of ring) bs mark) self.old self.new result }
+    {
+        match mark {
+            Mark::Propose => Ok(Arrival::Propose(self.claim()?)),
+            Mark::Prepare => Ok(Arrival::Prepare(self.claim()?)),
+            Mark::CheckCommit => Ok(Arrival::CheckCommit(self.check_commit(ring)?)),
+            Mark::Failure => Ok(Arrival::Failure(self.failure()?)),
+            Mark::ViewState => {
+                self.rewind();
+                Ok(Arrival::ViewState(self.view_state(ring)?))
+            }
+            Mark::NewView => Ok(Arrival::NewView(self.new_view(ring)?)),
+            Mark::Request | Mark::Inform => Err(Fault::Unreadable(0)),
         }
-        Mark::Failure => Ok((Arrival::Failure(failure_in(bytes)?), FAILURE_END)),
-        Mark::ViewState => {
-            let (state, end) = state_at(ring, bytes, 0)?;
-            Ok((Arrival::ViewState(state), end))
-        }
-        Mark::NewView => {
-            let (view, end) = new_view_in(ring, bytes)?;
-            Ok((Arrival::NewView(view), end))
-        }
-        Mark::Request | Mark::Inform => Err(Fault::Unreadable(0)),
     }
-}
 
-fn record_behind(ring: Ring, bytes: &[u8], mark: Mark) -> Result<(Record, usize), Fault>
-    ensures { result ≡ record_behind (stations_of ring) bytes.now mark }
-{
-    match mark {
-        Mark::Request => {
-            let (request, end) = request_behind(bytes, mark)?;
-            Ok((Record::Request(request), end))
-        }
-        Mark::Inform => {
-            let (inform, end) = inform_behind(bytes, mark)?;
-            Ok((Record::Inform(inform), end))
-        }
-        _ => {
-            let (arrival, end) = arrival_behind(ring, bytes, mark)?;
-            Ok((Record::Arrival(arrival), end))
+    fn record_behind(&mut self, ring: Ring, mark: Mark) -> Result<Record, Fault>
+        ensures { ReadsOnFrom 2 (λ bs. record_behind (stations_of ring) bs mark) self.old self.new result }
+    {
+        match mark {
+            Mark::Request => Ok(Record::Request(self.request()?)),
+            Mark::Inform => Ok(Record::Inform(self.inform()?)),
+            _ => Ok(Record::Arrival(self.arrival_behind(ring, mark)?)),
         }
     }
 }
 
-// Nothing may stand after the record.
-fn ends_at(bytes: &[u8], end: usize) -> Result<(), Fault>
-    ensures { result ≡ check (length bytes.now == end) end (Ok tt) }
+// The bytes as exactly one record, of which `read` reads what stands behind the mark.
+fn whole<T: Drop, F: FnOnce(&mut Cursor<'_>, Mark) -> Result<T, Fault>>(
+    bytes: &[u8],
+    read: F,
+) -> Result<T, Fault>
+    requires { F.IsAlwaysCallable read }
+    ensures { (behind : List ℕ → Mark → Result (T × ℕ) Fault) → ReadsBehind (F.post read) behind → result ≡ whole_behind behind bytes.now }
 {
-    if bytes.len() != end {
-        return Err(Fault::Unreadable(end));
-    }
-    Ok(())
-}
-
-fn whole_request(bytes: &[u8]) -> Result<Request, Fault>
-    ensures { result ≡ request_of bytes.now }
-{
-    let (request, end) = request_behind(bytes, mark_at(bytes)?)?;
-    ends_at(bytes, end)?;
-    Ok(request)
-}
-
-fn whole_inform(bytes: &[u8]) -> Result<Inform, Fault>
-    ensures { result ≡ inform_of bytes.now }
-{
-    let (inform, end) = inform_behind(bytes, mark_at(bytes)?)?;
-    ends_at(bytes, end)?;
-    Ok(inform)
-}
-
-fn whole_arrival(ring: Ring, bytes: &[u8]) -> Result<Arrival, Fault>
-    ensures { result ≡ arrival_of (stations_of ring) bytes.now }
-{
-    let (arrival, end) = arrival_behind(ring, bytes, mark_at(bytes)?)?;
-    ends_at(bytes, end)?;
-    Ok(arrival)
-}
-
-fn first_behind(ring: Ring, bytes: &[u8]) -> Result<(Record, usize), Fault>
-    ensures { result ≡ first_of (stations_of ring) bytes.now }
-{
-    record_behind(ring, bytes, mark_at(bytes)?)
-}
-
-fn whole_record(ring: Ring, bytes: &[u8]) -> Result<Record, Fault>
-    ensures { result ≡ record_of (stations_of ring) bytes.now }
-{
-    let (record, end) = first_behind(ring, bytes)?;
-    ends_at(bytes, end)?;
+    let mut cursor = Cursor::new(bytes);
+    let mark = cursor.mark()?;
+    let record = read(&mut cursor, mark)?;
+    cursor.end()?;
     Ok(record)
 }
 
@@ -159,7 +88,7 @@ pub fn read_request(bytes: &[u8]) -> Result<Request, Fault>
     ensures value { result ≡ request_of bytes.now }
     ensures back { RequestFrom bytes.now result }
 {
-    whole_request(bytes)
+    whole(bytes, |cursor, mark| cursor.request_behind(mark))
 }
 
 // The bytes as one inform; what is read is in range, and writing it gives the bytes again.
@@ -167,7 +96,7 @@ pub fn read_inform(bytes: &[u8]) -> Result<Inform, Fault>
     ensures value { result ≡ inform_of bytes.now }
     ensures back { InformFrom bytes.now result }
 {
-    whole_inform(bytes)
+    whole(bytes, |cursor, mark| cursor.inform_behind(mark))
 }
 
 // The bytes as one record that stations send each other; it is in range, and writing it gives the bytes again.
@@ -175,7 +104,7 @@ pub fn read_arrival(ring: Ring, bytes: &[u8]) -> Result<Arrival, Fault>
     ensures value { result ≡ arrival_of (stations_of ring) bytes.now }
     ensures back { ArrivalFrom (stations_of ring) bytes.now result }
 {
-    whole_arrival(ring, bytes)
+    whole(bytes, |cursor, mark| cursor.arrival_behind(ring, mark))
 }
 
 // The bytes as one record of any kind; it is in range, and writing it gives the bytes again.
@@ -183,7 +112,7 @@ pub fn read_record(ring: Ring, bytes: &[u8]) -> Result<Record, Fault>
     ensures value { result ≡ record_of (stations_of ring) bytes.now }
     ensures back { RecordFrom (stations_of ring) bytes.now result }
 {
-    whole_record(ring, bytes)
+    whole(bytes, |cursor, mark| cursor.record_behind(ring, mark))
 }
 
 // The first whole record that the bytes begin with, of any kind, and the place after it.
@@ -191,5 +120,8 @@ pub fn first_record(ring: Ring, bytes: &[u8]) -> Result<(Record, usize), Fault>
     ensures value { result ≡ first_of (stations_of ring) bytes.now }
     ensures back { FirstFrom (stations_of ring) bytes.now result }
 {
-    first_behind(ring, bytes)
+    let mut cursor = Cursor::new(bytes);
+    let mark = cursor.mark()?;
+    let record = cursor.record_behind(ring, mark)?;
+    Ok((record, cursor.place()))
 }
