@@ -1,59 +1,34 @@
--- One turn of the loops over certificates and view states: what the rule says of the one at index i and of the rest.
--- Assumes nothing.
-use Rattle.std.proofs.Common.{◌≡◌, ℕ, ◌+◌, ◌<◌, ◌≤◌, Bool, true, false, eqb, leb, List, ◌∷◌, length, get_or, drop, Ok, Err, Result, ap, ◌∙◌}
-use Rattle.std.proofs.lemmas.List.{at_drop_more, at_drop_all}
-use Rattle.std.proofs.lemmas.Bool.{cond-true, cond-false, le-leb, lt-leb, eq-eqb, ne_eqb}
-use Rattle.quorum.specs.declared.refusal.Fault.{Fault}
-use Rattle.quorum.specs.declared.refusal.Fault.TheVariants.{BrokenChain}
+-- Where view states end that keep the chain rule, and one turn of the loop over them. Assumes nothing.
+use Rattle.std.proofs.Common.{◌≡◌, ℕ, ◌+◌, ◌<◌, List, [], ◌∷◌, length, get_or, drop, Some, None, Option, Ok, sym, ap, ◌∙◌, arith, ◌*◌}
+use Rattle.std.proofs.lemmas.List.{at_drop_more}
 use Rattle.records.specs.Reading.{certificate_size, ◌then◌}
-use Rattle.records.specs.Chain.{link, rounds_link, member_link, states_link}
+use Rattle.records.specs.Chain.{rounds_link, commit_link, next_round, member_link, states_link}
+use Rattle.records.specs.Places.{after_commit, state_end}
 use Rattle.records.specs.declared.certificate.Certificate.{Certificate}
 use Rattle.records.specs.declared.arrivals.ViewState.{ViewState}
 
--- a link that holds, and one that is broken
-pub link_holds : {A : Type 0} (right : Bool) (at : ℕ) (rest : Result A Fault) → right ≡ true → link right at rest ≡ rest
-link_holds right at rest e = cond-true right rest (Err (BrokenChain at)) e
+-- certificates that are right end where their sizes say
+rounds_passed : (n x at round : ℕ) (cs : List Certificate) → (rounds_link n x at round cs then (λ _. Ok (tt {0}))) ≡ Ok tt → rounds_link n x at round cs ≡ Ok (at + length cs * certificate_size n)
+rounds_passed n x at round [] p = ap Ok (omega arith)
+rounds_passed n x at round (c ∷ cs) p =
+    let ih = rounds_passed n x (at + certificate_size n) (round + 1) cs in
+    let e : at + certificate_size n + length cs * certificate_size n ≡ at + length (c ∷ cs) * certificate_size n = omega arith in
+    grind arith
 
-pub link_broken : {A : Type 0} (right : Bool) (at : ℕ) (rest : Result A Fault) → right ≡ false → link right at rest ≡ Err (BrokenChain at)
-link_broken right at rest e = cond-false right rest (Err (BrokenChain at)) e
+-- a view state that is right ends where its places say
+whole : (n x at : ℕ) (o : Option Certificate) (cs : List Certificate) → ((commit_link n x at o then (λ place. rounds_link n x (place + 1) (next_round o) cs then (λ end. Ok (end + 8)))) then (λ _. Ok (tt {0}))) ≡ Ok tt → (commit_link n x at o then (λ place. rounds_link n x (place + 1) (next_round o) cs then (λ end. Ok (end + 8)))) ≡ Ok (after_commit n at o + 1 + length cs * certificate_size n + 8)
+whole n x at None cs p = let r = rounds_passed n x (at + 1 + 1) 1 cs in grind arith
+whole n x at (Some c) cs p = let r = rounds_passed n x (at + 1 + certificate_size n + 1) (c.proposal.round + 1) cs in grind arith
 
-module _ (n x at round : ℕ) (cs : List Certificate) (i : ℕ) (d : Certificate) (h : i < length cs) where
-  here : rounds_link n x at round (drop i cs) ≡ rounds_link n x at round (get_or cs i d ∷ drop (i + 1) cs)
-  here = at_drop_more (rounds_link n x at round) cs i d h
+member_passed : (n w at low : ℕ) (s : ViewState) → (member_link n w at low s then (λ _. Ok (tt {0}))) ≡ Ok tt → member_link n w at low s ≡ Ok (state_end n at s)
+member_passed n w at low s p = let r = whole n s.view (at + 7) s.commit s.prepared.items in grind arith
 
-  pub view_broken : x < (get_or cs i d).proposal.view → rounds_link n x at round (drop i cs) ≡ Err (BrokenChain at)
-  view_broken b = here ∙ link_broken (leb (get_or cs i d).proposal.view x) at _ (lt-leb (get_or cs i d).proposal.view x b)
-
-  pub round_broken : (get_or cs i d).proposal.view ≤ x → ((get_or cs i d).proposal.round ≡ round → ⊥) → rounds_link n x at round (drop i cs) ≡ Err (BrokenChain (at + 4))
-  round_broken v b =
-      here
-      ∙ link_holds (leb (get_or cs i d).proposal.view x) at _ (le-leb (get_or cs i d).proposal.view x v)
-      ∙ link_broken (eqb (get_or cs i d).proposal.round round) (at + 4) _ (ne_eqb (get_or cs i d).proposal.round round b)
-
-  pub round_more : (get_or cs i d).proposal.view ≤ x → (get_or cs i d).proposal.round ≡ round → rounds_link n x at round (drop i cs) ≡ rounds_link n x (at + certificate_size n) (round + 1) (drop (i + 1) cs)
-  round_more v e =
-      here
-      ∙ link_holds (leb (get_or cs i d).proposal.view x) at _ (le-leb (get_or cs i d).proposal.view x v)
-      ∙ link_holds (eqb (get_or cs i d).proposal.round round) (at + 4) _ (eq-eqb (get_or cs i d).proposal.round round e)
-
-pub rounds_all : (n x at round : ℕ) (cs : List Certificate) (i : ℕ) → length cs ≤ i → rounds_link n x at round (drop i cs) ≡ Ok at
-rounds_all n x at round cs i h = at_drop_all (rounds_link n x at round) cs i h
-
-module _ (n w at low : ℕ) (ss : List ViewState) (i : ℕ) (d : ViewState) (h : i < length ss) where
-  rest : Result ℕ Fault → Result ℕ Fault
-  rest r = r then (λ end. states_link n w end ((get_or ss i d).sender + 1) (drop (i + 1) ss))
-
-  this : states_link n w at low (drop i ss) ≡ rest (member_link n w at low (get_or ss i d))
-  unfolding rest
-  this = at_drop_more (states_link n w at low) ss i d h
-
-  pub state_broken : {f : Fault} → member_link n w at low (get_or ss i d) ≡ Err f → states_link n w at low (drop i ss) ≡ Err f
-  unfolding rest
-  state_broken b = this ∙ ap rest b
-
-  pub state_more : {end : ℕ} → member_link n w at low (get_or ss i d) ≡ Ok end → states_link n w at low (drop i ss) ≡ states_link n w end ((get_or ss i d).sender + 1) (drop (i + 1) ss)
-  unfolding rest
-  state_more b = this ∙ ap rest b
-
-pub states_all : (n w at low : ℕ) (ss : List ViewState) (i : ℕ) → length ss ≤ i → states_link n w at low (drop i ss) ≡ Ok at
-states_all n w at low ss i h = at_drop_all (states_link n w at low) ss i h
+-- one turn of the loop over view states
+module _ (n w at low : ℕ) (ss : List ViewState) (i : ℕ) (s : ViewState) (h : i < length ss) (is : s ≡ get_or ss i s) where
+  pub state_more : (member_link n w at low s then (λ _. Ok (tt {0}))) ≡ Ok tt → (next above : ℕ) → next ≡ state_end n at s → above ≡ s.sender + 1 → states_link n w at low (drop i ss) ≡ states_link n w next above (drop (i + 1) ss)
+  state_more p next above e f =
+      at_drop_more (states_link n w at low) ss i s h
+      ∙ ap (λ t. states_link n w at low (t ∷ drop (i + 1) ss)) (sym is)
+      ∙ ap (λ r. r then (λ end. states_link n w end (s.sender + 1) (drop (i + 1) ss))) (member_passed n w at low s p)
+      ∙ ap (λ k. states_link n w k (s.sender + 1) (drop (i + 1) ss)) (sym e)
+      ∙ ap (λ k. states_link n w next k (drop (i + 1) ss)) (sym f)

@@ -1,60 +1,26 @@
 // The fields are tried from left to right; the first that breaks the chain is the place of the refusal.
-ghost use Rattle.std.specs.Prelude.{◌≡◌, ◌+◌, ◌<◌, ◌≤◌, length, IfOk};
+ghost use Rattle.std.specs.Prelude.{◌≡◌, ◌+◌, ◌≤◌, Ok};
 ghost use Rattle.quorum.specs.Rings.{stations_of};
+ghost use Rattle.records.specs.Places.{prepared_place};
+ghost use Rattle.records.specs.Reading.{◌then◌};
 ghost use Rattle.records.specs.Chain.{rounds_link, commit_link, next_round, state_link, member_link, states_link, chain_of};
 
 use quorum::figures::Ring;
 use quorum::refusal::Fault;
-use records::arrivals::{Arrival, ViewState};
+use records::arrivals::{Arrival, NewView, ViewState};
 use records::certificate::Certificate;
 use records::certificate::sizes::certificate_size;
+use records::places::StateStart;
 
-// Prepared certificates: no view above the view state's, and rounds that follow one another; the place after them.
-fn rounds_link(
-    ring: Ring,
-    view: u32,
-    at: usize,
-    round: u64,
-    certificates: &[Certificate],
-) -> Result<usize, Fault>
-    requires { (at ≤ 8192) × ((round ≤ 4294967296) × (length certificates.now ≤ 8)) }
-    ensures value { result ≡ rounds_link (stations_of ring) view at round certificates.now }
-    ensures bound { IfOk result (λ end. end ≤ at + 768) }
+// The commit certificate: no view above the view state's.
+fn commit_link(start: StateStart, state: &ViewState) -> Result<(), Fault>
+    ensures { result ≡ (commit_link (stations_of start.ring) state.now.view (start.at + 7) state.now.commit then (λ _. Ok tt)) }
 {
-    let mut place = at;
-    let mut next = round;
-    for certificate in certificates {
-        if certificate.proposal.view > view {
-            return Err(Fault::BrokenChain(place));
+    match &state.commit {
+        Some(certificate) if certificate.proposal.view > state.view => {
+            Err(Fault::BrokenChain(start.places(state).commit))
         }
-        if u64::from(certificate.proposal.round) != next {
-            return Err(Fault::BrokenChain(place + 4));
-        }
-        place += certificate_size(ring);
-        next += 1;
-    }
-    Ok(place)
-}
-
-// The commit certificate behind its count: no view above the view state's; the place after it.
-fn commit_link(
-    ring: Ring,
-    view: u32,
-    at: usize,
-    commit: &Option<Certificate>,
-) -> Result<usize, Fault>
-    requires { at ≤ 8000 }
-    ensures value { result ≡ commit_link (stations_of ring) view at commit.now }
-    ensures bound { IfOk result (λ end. end ≤ at + 97) }
-{
-    match commit {
-        None => Ok(at + 1),
-        Some(certificate) => {
-            if certificate.proposal.view > view {
-                return Err(Fault::BrokenChain(at + 1));
-            }
-            Ok(at + 1 + certificate_size(ring))
-        }
+        _ => Ok(()),
     }
 }
 
@@ -69,51 +35,60 @@ fn next_round(commit: &Option<Certificate>) -> u64
     }
 }
 
-// A view state at a place; the place after it.
-fn state_link(ring: Ring, at: usize, state: &ViewState) -> Result<usize, Fault>
-    requires { at ≤ 7000 }
-    ensures value { result ≡ state_link (stations_of ring) at state.now }
-    ensures bound { IfOk result (λ end. end ≤ at + 881) }
+// Prepared certificates: no view above the view state's, and rounds that follow one another.
+fn rounds_link(start: StateStart, state: &ViewState) -> Result<(), Fault>
+    ensures { result ≡ (rounds_link (stations_of start.ring) state.now.view (prepared_place (stations_of start.ring) start.at state.now) (next_round state.now.commit) state.now.prepared.items then (λ _. Ok tt)) }
 {
-    let place = commit_link(ring, state.view, at + 7, &state.commit)?;
+    let size = certificate_size(start.ring);
+    let first = start.places(state).prepared;
     let round = next_round(&state.commit);
-    let end = rounds_link(
-        ring,
-        state.view,
-        place + 1,
-        round,
-        state.prepared.as_slice(),
-    )?;
-    Ok(end + 8)
+    let certificates = state.prepared.as_slice();
+    for (i, certificate) in certificates.iter().enumerate() {
+        let place = first + i * size;
+        if certificate.proposal.view > state.view {
+            return Err(Fault::BrokenChain(place));
+        }
+        if u64::from(certificate.proposal.round) != round + i as u64 {
+            return Err(Fault::BrokenChain(place + 4));
+        }
+    }
+    Ok(())
 }
 
-// One view state of a new view: a sender of the ring from `low` on, and the view before; the place after it.
-fn member_link(ring: Ring, view: u32, at: usize, low: u8, state: &ViewState) -> Result<usize, Fault>
-    requires { at ≤ 7000 }
-    ensures value { result ≡ member_link (stations_of ring) view at low state.now }
-    ensures bound { IfOk result (λ end. (end ≤ at + 881) × (state.now.sender < 10)) }
+// A view state where it begins.
+fn state_link(start: StateStart, state: &ViewState) -> Result<(), Fault>
+    ensures { result ≡ (state_link (stations_of start.ring) start.at state.now then (λ _. Ok tt)) }
 {
-    if state.sender < low || state.sender >= ring.stations() {
-        return Err(Fault::BrokenChain(at + 2));
+    commit_link(start, state)?;
+    rounds_link(start, state)
+}
+
+// One view state of a new view: a sender of the ring from `low` on, and the view before.
+fn member_link(view: u32, low: u16, start: StateStart, state: &ViewState) -> Result<(), Fault>
+    ensures { result ≡ (member_link (stations_of start.ring) view start.at low state.now then (λ _. Ok tt)) }
+{
+    if u16::from(state.sender) < low || state.sender >= start.ring.stations() {
+        return Err(Fault::BrokenChain(start.at + 2));
     }
     if u64::from(state.view) + 1 != u64::from(view) {
-        return Err(Fault::BrokenChain(at + 3));
+        return Err(Fault::BrokenChain(start.at + 3));
     }
-    state_link(ring, at, state)
+    state_link(start, state)
 }
 
-// The view states of a new view, with rising senders; the place after them.
-fn states_link(ring: Ring, view: u32, at: usize, states: &[ViewState]) -> Result<usize, Fault>
-    requires { (at ≤ 8) × (length states.now ≤ 7) }
-    ensures { result ≡ states_link (stations_of ring) view at 0 states.now }
+// The view states of a new view, with rising senders.
+fn states_link(ring: Ring, view: &NewView) -> Result<(), Fault>
+    ensures { result ≡ (states_link (stations_of ring) view.now.view 8 0 view.now.states.items then (λ _. Ok tt)) }
 {
-    let mut place = at;
+    let mut at = 8;
     let mut low = 0;
-    for state in states {
-        place = member_link(ring, view, place, low, state)?;
-        low = state.sender + 1;
+    for state in view.states.as_slice() {
+        let start = StateStart { ring, at };
+        member_link(view.view, low, start, state)?;
+        at = start.places(state).end;
+        low = u16::from(state.sender) + 1;
     }
-    Ok(place)
+    Ok(())
 }
 
 // Whether a record that arrives keeps the chain rule, and if not, where it breaks it.
@@ -121,14 +96,8 @@ pub fn check_chain(ring: Ring, arrival: &Arrival) -> Result<(), Fault>
     ensures { result ≡ chain_of (stations_of ring) arrival.now }
 {
     match arrival {
-        Arrival::ViewState(state) => {
-            state_link(ring, 0, state)?;
-            Ok(())
-        }
-        Arrival::NewView(view) => {
-            states_link(ring, view.view, 8, view.states.as_slice())?;
-            Ok(())
-        }
+        Arrival::ViewState(state) => state_link(StateStart { ring, at: 0 }, state),
+        Arrival::NewView(view) => states_link(ring, view),
         _ => Ok(()),
     }
 }

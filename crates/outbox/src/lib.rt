@@ -1,9 +1,11 @@
 // Writing records into a tray.
 #![tactic(auto)]
 
-mod bodies;
 mod certificates;
-mod puts;
+mod numbers;
+mod pen;
+mod requests;
+mod said;
 pub mod sending;
 pub mod statements;
 pub mod tray;

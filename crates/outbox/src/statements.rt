@@ -1,14 +1,22 @@
 // What a seal covers, for whoever tries one.
 ghost use Rattle.outbox.specs.Trays.{Written};
-ghost use Rattle.records.specs.Statements.{covered};
+ghost use Rattle.records.specs.Said.{meaning_of};
+ghost use Rattle.records.specs.Statements.{said_bytes};
 
-use crate::bodies::put_covered;
+use crate::pen::{Pen, Put};
+use crate::tray::Fill;
 use quorum::refusal::Fault;
-use records::arrivals::Record;
+use records::statement::Said;
 
-// The bytes that the own seal of a record covers, at the beginning of a buffer; the answer is where they end.
-pub fn cover(message: &Record, buffer: &mut [u8]) -> Result<usize, Fault>
-    ensures { Written buffer.old buffer.new 0 (covered message.now) result }
+// The bytes that a seal over a statement covers, at the beginning of a buffer; the answer is where they end.
+pub fn cover(said: Said<'_>, buffer: &mut [u8]) -> Result<usize, Fault>
+    ensures { Written buffer.old buffer.new 0 (said_bytes (meaning_of said.entry)) result }
 {
-    put_covered(buffer, 0, message)
+    let mut fill = Fill { used: 0 };
+    let mut pen = Pen {
+        memory: buffer,
+        fill: &mut fill,
+    };
+    said.put(&mut pen)?;
+    Ok(fill.used)
 }

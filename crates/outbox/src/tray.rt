@@ -1,6 +1,6 @@
 // A tray is memory that is lent, with its fill. A record that is begun is a guard over the fill: whatever way leads
 // out, the fill is put back unless the record was closed.
-ghost use Rattle.std.specs.Prelude.{◌≡◌, false, if◌then◌else◌};
+ghost use Rattle.std.specs.Prelude.{◌≡◌, unwrap_or};
 
 // How many bytes of a tray's memory hold records that were sent.
 #[derive(Clone, Copy, PartialEq, Eq, Debug)]
@@ -8,24 +8,29 @@ pub struct Fill {
     pub used: usize,
 }
 
-// A record that is begun and not closed yet.
+// Memory that is lent, and how much of it holds records that were sent.
+#[derive(Drop)]
+pub struct Tray<'a> {
+    pub memory: &'a mut [u8],
+    pub fill: Fill,
+}
+
+// A record that is begun, with the fill that is put back where it is not closed.
 pub(crate) struct Draft<'a> {
     pub(crate) fill: &'a mut Fill,
-    pub(crate) start: usize,
-    pub(crate) closed: bool,
+    pub(crate) back_to: Option<usize>,
 }
 
 impl Drop for Draft<'_> {
     fn drop(self)
-        ensures { self.exit.0.now.used ≡ (if self.entry.closed then self.entry.fill.now.used else self.entry.start) }
+        ensures { self.exit.0.now.used ≡ unwrap_or self.entry.back_to self.entry.fill.now.used }
     {
-        if !self.closed {
-            self.fill.used = self.start;
+        if let Some(start) = self.back_to {
+            self.fill.used = start;
         }
         let Draft {
             fill: _,
-            start: _,
-            closed: _,
+            back_to: _,
         } = self;
     }
 }

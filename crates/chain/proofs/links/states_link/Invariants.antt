@@ -5,7 +5,8 @@ use Rattle.records.specs.Chain.{states_link}
 use Rattle.chain.proofs.links.states_link.Given as goal
 
 abbrev pub invariant-loop-state : goal.invariant-loop-state
-invariant-loop-state l =
-    (states_link (stations_of l.ring) l.view l.place l.low (drop l.state-index l.states)
-    ≡ states_link (stations_of l.ring) l.view l.at 0 l.states)
-    × (l.place ≤ l.at + 881 * l.state-index)
+invariant-loop-state l = record {
+  left : states_link (stations_of l.ring) l.view.view l.at l.low (drop l.state-index l.state-items)
+      ≡ states_link (stations_of l.ring) l.view.view 8 0 l.view.states.items;
+  near : l.at ≤ 8 + 881 * l.state-index;
+}

@@ -1,33 +1,42 @@
--- Each turn puts one station more below those that the mask has.
-use Rattle.std.proofs.Common.{◌≡◌, ◌+◌, ◌-◌, ◌*◌, ◌^◌, ◌<◌, ◌≤◌, Bool, true, false, cond, length, get_or, drop, is_some, None, sym, refl, ap, ◌∙◌, pow-suc, arith}
-use mir.Val.{bool_byte}
-use Rattle.std.proofs.lemmas.List.{drop_all, at_drop_more}
+-- From the last station down, each turn puts one more below those that the mask has.
+use Rattle.std.proofs.Common.{rules, ◌≡◌, ℕ, ◌*◌, ◌%◌, ◌^◌, ◌<◌, Bool, true, false, cond, List, [], ◌∷◌, length, is_some, Option, reverse, refl, ap, ◌∙◌, pow-suc, arith}
+use Rattle.std.specs.List.{fold}
+use Rattle.std.specs.Int.RustNames.{bit_or}
+use Rattle.std.proofs.lemmas.Grind.{or_after_shift}
+use Rattle.std.proofs.lemmas.List.{reverse-append}
+use Rattle.std.proofs.lemmas.List.Sums.{fold_push}
+use Rattle.std.proofs.lemmas.Iterator.Adapters.{YieldsList-from_rev_slice}
+use Rattle.std.proofs.lemmas.Iterator.Consumers.{fold_from_yields_List}
 use Rattle.records.specs.Numbers.{mask_of}
 use Rattle.outbox.proofs.certificates.mask_of.Goals as goal
 
-bit : (b : Bool) → bool_byte b ≡ cond b 1 0
-bit true = refl
-bit false = refl
+abbrev turn : ℕ → Option ℕ → ℕ
+turn mask seal = bit_or (mask * 2 % 65536) (cond (is_some seal) 1 0)
 
-bit_small : (b : Bool) → cond b 1 0 ≤ 1
-bit_small true = omega arith
-bit_small false = omega arith
+small : (b : Bool) → cond b 1 0 < 2
+small true = omega arith
+small false = omega arith
 
-pub loop-i-init : goal.loop-i-init
-loop-i-init c =
-    let all = drop_all 10 c.args.seals.now (let e = c.told-seals in omega arith) in
-    (sym (ap mask_of all), omega arith)
+below : (seals : List (Option ℕ)) → mask_of seals < 2 ^ length seals
+below [] = omega arith
+below (seal ∷ seals) =
+    let ih = below seals in
+    let s = small (is_some seal) in
+    rw (pow-suc 2 (length seals)) (omega (arith, ih, s))
 
-pub loop-i-preserved : goal.loop-i-preserved
-loop-i-preserved c =
-    let low : (c.loop-i.i - 1) + 1 ≡ c.loop-i.i = omega arith in
-    let lt : c.loop-i.i - 1 < length c.args.seals.now = omega arith in
-    let here = at_drop_more mask_of c.args.seals.now (c.loop-i.i - 1) None lt in
-    let more : mask_of (drop ((c.loop-i.i - 1) + 1) c.args.seals.now) ≡ c.loop-i.mask = ap (λ i. mask_of (drop i c.args.seals.now)) low ∙ sym c.loop-i.invariant.0 in
-    let b : c.from.result ≡ cond (is_some (get_or c.args.seals.now (c.loop-i.i - 1) None)) 1 0 = c.from.ensures ∙ bit c.is_some.result ∙ ap (λ (t : Bool). cond t 1 0) c.is_some.ensures in
-    let s = bit_small (is_some (get_or c.args.seals.now (c.loop-i.i - 1) None)) in
-    let up : 2 ^ (10 - (c.loop-i.i - 1)) ≡ 2 ^ (10 - c.loop-i.i) * 2 = ap (λ k. 2 ^ k) (let e : 10 - (c.loop-i.i - 1) ≡ Prim.Native.Nat.suc (10 - c.loop-i.i) = omega arith in e) ∙ pow-suc 2 (10 - c.loop-i.i) in
-    (omega (arith, here, more, b), rw up (omega (arith, b, s, c.loop-i.invariant.1)))
+folded : (seals : List (Option ℕ)) → mask_of seals < 65536 → fold turn 0 (reverse seals) ≡ mask_of seals
+folded [] fits = refl
+folded (seal ∷ seals) fits =
+    let ih = folded seals (omega arith) in
+    let s = small (is_some seal) in
+    ap (fold turn 0) (reverse-append (seal ∷ []) seals)
+    ∙ fold_push turn 0 (reverse seals) seal
+    ∙ ap (λ m. turn m seal) ih
+    ∙ or_after_shift (mask_of seals) 2 65536 (cond (is_some seal) 1 0) refl s (omega arith)
+    ∙ omega arith
 
 pub returns : goal.returns
-returns c = let z : c.loop-i.i ≡ 0 = omega arith in c.loop-i.invariant.0 ∙ ap (λ i. mask_of (drop i c.args.seals.now)) z
+returns c =
+    let small : mask_of c.args.seals.now < 2 ^ 10 = rw c.told-seals at (below c.args.seals.now) in
+    fold_from_yields_List _ turn 0 c.fold.result c.fold.ensures.ran (YieldsList-from_rev_slice c.args.seals.now (search rules)) (λ a x b q k. search rules)
+    ∙ folded c.args.seals.now (omega arith)

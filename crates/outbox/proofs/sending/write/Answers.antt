@@ -1,38 +1,17 @@
--- The covered part, what stands behind it and the seal follow one another; on every way out without the seal the
--- fill is put back.
-use Rattle.std.proofs.Common.{ℕ, ◌++◌, sym, ap, ◌∙◌}
-use Rattle.records.specs.Numbers.{put}
-use Rattle.records.specs.Statements.{covered, rest_bytes}
-use Rattle.records.proofs.Covered.{split_own}
-use Rattle.outbox.proofs.Parts.{part_then, part_stop, sent_whole, sent_none, sent_as, sent_back}
+-- A record under its own seal is the record itself.
+use Rattle.std.proofs.Common.{rules, ◌≡◌, sym, ◌∙◌}
+use Rattle.records.specs.Statements.{own_seal, under_seal}
+use Rattle.records.specs.Writing.{record_bytes}
+use Rattle.records.specs.declared.arrivals.Record.{Record}
+use Rattle.records.proofs.Covered.{split_own, split_under}
+use Rattle.outbox.proofs.Back.{sent_as, sent_back}
 use Rattle.outbox.proofs.sending.write.Goals as goal
 
-pub returns-in_err-covered_end : goal.returns-in_err-covered_end
-returns-in_err-covered_end c =
-    let s = sent_as (sym (split_own c.args.message.now))
-    (sent_none _ c.from_residual.result c.from_residual.ensures.1 (part_stop _ c.in_err-covered_end.ensures) c.drop-draft.ensures) in
-    record { sent = s; back = sent_back c.args.message.now _ s }
+own : (r : Record) → record_bytes (under_seal r (own_seal r)) ≡ record_bytes r
+own r = split_under r (own_seal r) ∙ sym (split_own r)
 
-pub returns-in_err-seal_at : goal.returns-in_err-seal_at
-returns-in_err-seal_at c =
-    let s = sent_as (sym (split_own c.args.message.now))
-    (sent_none _ c.from_residual-in_err-seal_at.result c.from_residual-in_err-seal_at.ensures.1
-    (part_then c.in_ok-covered_end.ensures (part_stop _ c.in_err-seal_at.ensures))
-    c.drop-draft-in_err-seal_at.ensures) in
-    record { sent = s; back = sent_back c.args.message.now _ s }
+pub returns-clause-sent : goal.returns-clause-sent
+returns-clause-sent c = sent_as (own c.args.message.now) (c.send_sealed.ensures.sent (own_seal c.args.message.now) (search rules))
 
-pub returns-in_err-end : goal.returns-in_err-end
-returns-in_err-end c =
-    let s = sent_as (ap (λ (s : ℕ). covered c.args.message.now ++ (rest_bytes c.args.message.now ++ put 8 s)) c.seal.ensures ∙ sym (split_own c.args.message.now))
-    (sent_none _ c.from_residual-in_err-end.result c.from_residual-in_err-end.ensures.1
-    (part_then c.in_ok-covered_end.ensures (part_then c.in_ok-seal_at.ensures c.in_err-end.ensures))
-    c.drop-draft-in_err-end.ensures) in
-    record { sent = s; back = sent_back c.args.message.now _ s }
-
-pub returns : goal.returns
-returns c =
-    let s = sent_as (ap (λ (s : ℕ). covered c.args.message.now ++ (rest_bytes c.args.message.now ++ put 8 s)) c.seal.ensures ∙ sym (split_own c.args.message.now))
-    (sent_whole _
-    (part_then c.in_ok-covered_end.ensures (part_then c.in_ok-seal_at.ensures c.in_ok-end.ensures))
-    c.drop-draft-2.ensures) in
-    record { sent = s; back = sent_back c.args.message.now _ s }
+pub returns-clause-back : goal.returns-clause-back
+returns-clause-back c = sent_back c.args.message.now _ (returns-clause-sent c)
