@@ -1,5 +1,5 @@
 -- What is admitted of what arrives: refusals 2 to 5, in their order.
-use Rattle.std.specs.Prelude.{ℕ, ◌-◌, Bool, true, cond, not, ◌&&◌, List, ◌∷◌, length, Some, None, Ok, Err, Option, Result, ◌==◌, nat_lt}
+use Rattle.std.specs.Prelude.{ℕ, Bool, true, cond, not, ◌&&◌, List, Some, None, Ok, Err, Option, Result, ◌==◌, nat_lt}
 use Rattle.quorum.specs.declared.refusal.Fault.{Fault}
 use Rattle.quorum.specs.declared.refusal.Fault.TheVariants.{WrongSender}
 use Rattle.quorum.specs.Figures.{primary_of}
@@ -9,9 +9,8 @@ use Rattle.records.specs.declared.request.Request.{Request}
 use Rattle.records.specs.declared.arrivals.Inform.{Inform}
 use Rattle.records.specs.declared.arrivals.Arrival.{Arrival}
 use Rattle.records.specs.declared.arrivals.Arrival.TheVariants as arrival
-use Rattle.records.specs.Statements.{said_by}
-use Rattle.records.specs.Writing.{seal_of}
-use Rattle.seals.specs.Tried.{tried, sent_by, inner_of, seals_of, seals_of_request, seals_of_inform, first_false}
+use Rattle.records.specs.Writing.{sent_by}
+use Rattle.seals.specs.Tried.{seals_of, seals_of_request, seals_of_inform, first_false}
 
 -- a sender is another station of the ring
 abbrev pub other : ℕ → ℕ → ℕ → Bool
@@ -38,10 +37,6 @@ may_send n own a = other n own (sent_by a) && is_it (sent_by a) (primary_for n a
 abbrev pub sender_of : ℕ → ℕ → Arrival → Result (Unit {0}) Fault
 sender_of n own a = cond (may_send n own a) (Ok tt) (Err (WrongSender 2))
 
--- all seals of a record whose own seal stands at a place
-abbrev pub all_tried : (ℕ → List ℕ → ℕ → Bool) → ℕ → ℕ → Arrival → Result (Unit {0}) Fault
-all_tried genuine n place a = first_false genuine (tried (sent_by a) (said_by a) (seal_of a) place ∷ inner_of n a)
-
 -- readable, from a right sender, within the chain rule, with genuine seals
 abbrev pub admitted : (ℕ → List ℕ → ℕ → Bool) → ℕ → ℕ → List ℕ → Result Arrival Fault
 admitted genuine n own bs =
@@ -60,12 +55,3 @@ abbrev pub heard : (ℕ → List ℕ → ℕ → Bool) → ℕ → List ℕ → 
 heard genuine n bs =
     inform_of bs then (λ i.
     cond (nat_lt i.sender n) (first_false genuine (seals_of_inform i) then (λ _. Ok i)) (Err (WrongSender 2)))
-
--- the same with the own seal in the last eight bytes, as the code finds it
-abbrev pub admitted_at : (ℕ → List ℕ → ℕ → Bool) → ℕ → ℕ → List ℕ → Result Arrival Fault
-admitted_at genuine n own bs =
-    arrival_of n bs then (λ a.
-    sender_of n own a then (λ _.
-    chain_of n a then (λ _.
-    all_tried genuine n (length bs - 8) a then (λ _.
-    Ok a))))

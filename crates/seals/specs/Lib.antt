@@ -1,4 +1,2 @@
 pub mod Tried
 pub mod Admitted
-pub mod Reach
-pub mod Supports

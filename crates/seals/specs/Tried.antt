@@ -1,12 +1,12 @@
 -- The seals of a record, in the order in which they are tried: the record's own first, of a Propose then the request's,
 -- then by place those of certificates, and in a new view after each view state's certificates that view state's own.
-use Rattle.std.specs.Prelude.{ℕ, ◌+◌, ◌-◌, ◌*◌, Bool, cond, List, [], ◌∷◌, ◌++◌, length, Some, None, Ok, Err, Option, Result}
+use Rattle.std.specs.Prelude.{ℕ, ◌+◌, ◌-◌, Bool, cond, List, [], ◌∷◌, ◌++◌, length, Some, None, Ok, Err, Option, Result}
 use Rattle.quorum.specs.declared.refusal.Fault.{Fault}
 use Rattle.quorum.specs.declared.refusal.Fault.TheVariants.{NotGenuine}
-use Rattle.records.specs.Lists.{listed}
 use Rattle.records.specs.Reading.{certificate_size}
+use Rattle.records.specs.Places.{prepared_place, state_seal_place, state_end}
 use Rattle.records.specs.Statements.{Statement, prepares, checks, said_bytes, said_by, statement_of}
-use Rattle.records.specs.Writing.{seal_of, arrival_bytes}
+use Rattle.records.specs.Writing.{sent_by, seal_of, arrival_bytes}
 use Rattle.records.specs.declared.request.Request.{Request}
 use Rattle.records.specs.declared.request.Proposal.{Proposal}
 use Rattle.records.specs.declared.certificate.Certificate.{Certificate}
@@ -45,20 +45,11 @@ abbrev pub commit_seals : ℕ → Option Certificate → List Tried
 commit_seals at None = []
 commit_seals at (Some c) = certificate_seals checks (at + 1) c
 
-abbrev pub after_commit : ℕ → ℕ → Option Certificate → ℕ
-after_commit n at None = at + 1
-after_commit n at (Some c) = at + 1 + certificate_size n
-
--- where the own seal of a view state at a place stands
-abbrev pub state_seal_at : ℕ → ℕ → ViewState → ℕ
-state_seal_at n at s =
-    after_commit n (at + 7) s.commit + 1 + length (listed s.prepared) * certificate_size n
-
 -- the certificates' seals of a view state at a place
 abbrev pub state_seals : ℕ → ℕ → ViewState → List Tried
 state_seals n at s =
     commit_seals (at + 7) s.commit
-    ++ prepared_seals n (after_commit n (at + 7) s.commit + 1) (listed s.prepared)
+    ++ prepared_seals n (prepared_place n at s) s.prepared.items
 
 -- what a view state's own seal says
 abbrev pub state_says : ViewState → Statement
@@ -69,20 +60,11 @@ abbrev pub states_seals : ℕ → ℕ → List ViewState → List Tried
 states_seals n at [] = []
 states_seals n at (s ∷ ss) =
     state_seals n at s
-    ++ (tried s.sender (state_says s) s.seal (state_seal_at n at s) ∷ states_seals n (state_seal_at n at s + 8) ss)
+    ++ (tried s.sender (state_says s) s.seal (state_seal_place n at s) ∷ states_seals n (state_end n at s) ss)
 
 -- the seal of a request at a place
 abbrev pub request_seal : ℕ → Request → Tried
 request_seal at r = tried r.client (statement_of (rec.Request r)) r.seal at
-
--- the station that sent a record
-abbrev pub sent_by : Arrival → ℕ
-sent_by (arrival.Propose p) = p.sender
-sent_by (arrival.Prepare p) = p.sender
-sent_by (arrival.CheckCommit c) = c.sender
-sent_by (arrival.Failure f) = f.sender
-sent_by (arrival.ViewState s) = s.sender
-sent_by (arrival.NewView v) = v.sender
 
 -- the own seal of a record stands in its last eight bytes
 abbrev pub own_of : Arrival → Tried
@@ -95,7 +77,7 @@ inner_of n (arrival.Prepare p) = []
 inner_of n (arrival.CheckCommit c) = certificate_seals prepares 3 c.prepared
 inner_of n (arrival.Failure f) = []
 inner_of n (arrival.ViewState s) = state_seals n 0 s
-inner_of n (arrival.NewView v) = states_seals n 8 (listed v.states)
+inner_of n (arrival.NewView v) = states_seals n 8 v.states.items
 
 -- all seals of a record that arrives at a station of a ring of n
 abbrev pub seals_of : ℕ → Arrival → List Tried

@@ -1,23 +1,23 @@
 // One seal tried.
-ghost use Rattle.std.specs.Prelude.{◌≡◌, if◌then◌else◌, Ok, Err};
-ghost use Rattle.quorum.specs.declared.refusal.Fault.TheVariants.{NotGenuine};
-ghost use Rattle.records.specs.Statements.{covered};
-ghost use Rattle.seals.specs.Reach.{in_reach};
+ghost use Rattle.std.specs.Prelude.{◌≡◌, ◌≤◌, [], ◌∷◌, length};
+ghost use Rattle.quorum.specs.Limits.{longest_statement};
+ghost use Rattle.records.specs.Said.{meaning_of};
+ghost use Rattle.records.specs.Statements.{said_bytes};
+ghost use Rattle.seals.specs.Tried.{tried, first_false};
 
 use outbox::statements::cover;
+use quorum::limits::LONGEST_STATEMENT;
 use quorum::refusal::Fault;
-use records::arrivals::Record;
+use records::statement::Said;
 use seal_box::SealBox;
 
-// what the seal of the longest record covers
-const LONGEST: usize = 6175;
-
-// Whether a tag is the signer's genuine seal of what a record's own seal covers.
-fn ask<B: SealBox>(seals: &B, signer: u16, message: &Record, tag: u64) -> bool
-    ensures { result ≡ in_reach (B.genuine seals.now) signer (covered message.now) tag }
+// Whether a tag is the signer's genuine seal of a statement.
+fn ask<B: SealBox>(seals: &B, signer: u16, said: Said<'_>, tag: u64) -> bool
+    requires { length (said_bytes (meaning_of said)) ≤ longest_statement }
+    ensures { result ≡ B.genuine seals.now signer (said_bytes (meaning_of said.entry)) tag }
 {
-    let mut statement = [0; LONGEST];
-    match cover(message, &mut statement) {
+    let mut statement = [0; LONGEST_STATEMENT];
+    match cover(said, &mut statement) {
         Ok(end) => seals.ask(signer, &statement[0..end], tag),
         Err(_) => false,
     }
@@ -27,13 +27,14 @@ fn ask<B: SealBox>(seals: &B, signer: u16, message: &Record, tag: u64) -> bool
 pub(crate) fn try_seal<B: SealBox>(
     seals: &B,
     signer: u16,
-    message: &Record,
+    said: Said<'_>,
     tag: u64,
     place: usize,
 ) -> Result<(), Fault>
-    ensures { result ≡ (if in_reach (B.genuine seals.now) signer (covered message.now) tag then Ok tt else Err (NotGenuine place)) }
+    requires { length (said_bytes (meaning_of said)) ≤ longest_statement }
+    ensures { result ≡ first_false (B.genuine seals.now) (tried signer (meaning_of said.entry) tag place ∷ []) }
 {
-    if !ask(seals, signer, message, tag) {
+    if !ask(seals, signer, said, tag) {
         return Err(Fault::NotGenuine(place));
     }
     Ok(())

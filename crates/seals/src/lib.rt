@@ -5,4 +5,3 @@ pub mod admitting;
 mod asking;
 mod certificates;
 mod states;
-mod supports;

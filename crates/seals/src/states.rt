@@ -1,61 +1,85 @@
 // The seals of view states and new views.
-ghost use Rattle.std.specs.Prelude.{◌≡◌, ◌+◌, ◌≤◌, length, IfOk};
+ghost use Rattle.std.specs.Prelude.{◌≡◌, ◌+◌, [], ◌∷◌};
+ghost use Rattle.std.specs.List.{AllByRecursion};
 ghost use Rattle.quorum.specs.Rings.{stations_of};
-ghost use Rattle.seals.specs.Supports.{state_tried, member_tried, states_tried};
-ghost use Rattle.seals.specs.Reach.{in_reach};
+ghost use Rattle.records.specs.Places.{prepared_place, state_seal_place};
+ghost use Rattle.records.specs.Range.{RightCertificate, RightCommit, RightState};
+ghost use Rattle.records.specs.Reading.{◌then◌};
+ghost use Rattle.seals.specs.Tried.{tried, prepared_seals, commit_seals, state_seals, state_says, states_seals, first_false};
 
 use crate::asking::try_seal;
-use crate::certificates::{try_commit, try_prepared};
+use crate::certificates::try_certificate;
 use quorum::figures::Ring;
 use quorum::refusal::Fault;
-use records::arrivals::{Arrival, Record, ViewState};
+use records::arrivals::{NewView, ViewState};
+use records::certificate::sizes::certificate_size;
+use records::places::StateStart;
+use records::statement::{Said, Support};
 use seal_box::SealBox;
 
-// The certificates' seals of a view state; the place of its own seal, which is not tried here.
-pub(crate) fn try_state<B: SealBox>(
-    seals: &B,
-    ring: Ring,
-    at: usize,
-    state: &ViewState,
-) -> Result<usize, Fault>
-    requires { at ≤ 6800 }
-    ensures value { result ≡ state_tried (in_reach (B.genuine seals.now)) (stations_of ring) at state.now }
-    ensures bound { IfOk result (λ end. end ≤ at + 873) }
+// The seals of the commit certificate.
+fn try_commit<B: SealBox>(seals: &B, start: StateStart, state: &ViewState) -> Result<(), Fault>
+    requires { RightCommit (stations_of start.ring) state.now.commit }
+    ensures { result ≡ first_false (B.genuine seals.now) (commit_seals (start.at + 7) state.now.commit) }
 {
-    let place = try_commit(seals, ring, at + 7, &state.commit)?;
-    try_prepared(seals, ring, place + 1, state.prepared.as_slice())
+    match &state.commit {
+        None => Ok(()),
+        Some(certificate) => {
+            let place = start.places(state).commit;
+            try_certificate(seals, Support::Committed, place, certificate)
+        }
+    }
 }
 
-// A view state inside a new view: its certificates' seals, then its own; the place after it.
-fn try_member<B: SealBox>(
-    seals: &B,
-    ring: Ring,
-    at: usize,
-    state: &ViewState,
-) -> Result<usize, Fault>
-    requires { at ≤ 6800 }
-    ensures value { result ≡ member_tried (in_reach (B.genuine seals.now)) (stations_of ring) at state.now }
-    ensures bound { IfOk result (λ end. end ≤ at + 881) }
+// The seals of the prepared certificates.
+fn try_prepared<B: SealBox>(seals: &B, start: StateStart, state: &ViewState) -> Result<(), Fault>
+    requires { AllByRecursion (RightCertificate (stations_of start.ring)) state.now.prepared.items }
+    ensures { result ≡ first_false (B.genuine seals.now) (prepared_seals (stations_of start.ring) (prepared_place (stations_of start.ring) start.at state.now) state.now.prepared.items) }
 {
-    let place = try_state(seals, ring, at, state)?;
-    let message = Record::Arrival(Arrival::ViewState(*state));
-    try_seal(seals, u16::from(state.sender), &message, state.seal, place)?;
-    Ok(place + 8)
+    let size = certificate_size(start.ring);
+    let first = start.places(state).prepared;
+    let certificates = state.prepared.as_slice();
+    for (i, certificate) in certificates.iter().enumerate() {
+        try_certificate(seals, Support::Prepared, first + i * size, certificate)?;
+    }
+    Ok(())
+}
+
+// The certificates' seals of a view state; its own is not tried here.
+#[tactic(auto, using(crate::proofs::Turns::false_append))]
+pub(crate) fn try_state<B: SealBox>(
+    seals: &B,
+    start: StateStart,
+    state: &ViewState,
+) -> Result<(), Fault>
+    requires { RightState (stations_of start.ring) state.now }
+    ensures { result ≡ first_false (B.genuine seals.now) (state_seals (stations_of start.ring) start.at state.now) }
+{
+    try_commit(seals, start, state)?;
+    try_prepared(seals, start, state)
+}
+
+// A view state inside a new view: its certificates' seals, then its own.
+fn try_member<B: SealBox>(seals: &B, start: StateStart, state: &ViewState) -> Result<(), Fault>
+    requires { RightState (stations_of start.ring) state.now }
+    ensures { result ≡ (first_false (B.genuine seals.now) (state_seals (stations_of start.ring) start.at state.now) then (λ _. first_false (B.genuine seals.now) (tried state.now.sender (state_says state.now) state.now.seal (state_seal_place (stations_of start.ring) start.at state.now) ∷ []))) }
+{
+    try_state(seals, start, state)?;
+    let signer = u16::from(state.sender);
+    let place = start.places(state).seal;
+    try_seal(seals, signer, Said::Leaves(state), state.seal, place)
 }
 
 // The seals of the view states of a new view.
-pub(crate) fn try_states<B: SealBox>(
-    seals: &B,
-    ring: Ring,
-    at: usize,
-    states: &[ViewState],
-) -> Result<(), Fault>
-    requires { (at ≤ 8) × (length states.now ≤ 7) }
-    ensures { result ≡ states_tried (in_reach (B.genuine seals.now)) (stations_of ring) at states.now }
+pub(crate) fn try_states<B: SealBox>(seals: &B, ring: Ring, view: &NewView) -> Result<(), Fault>
+    requires { AllByRecursion (RightState (stations_of ring)) view.now.states.items }
+    ensures { result ≡ first_false (B.genuine seals.now) (states_seals (stations_of ring) 8 view.now.states.items) }
 {
-    let mut place = at;
-    for state in states {
-        place = try_member(seals, ring, place, state)?;
+    let mut at = 8;
+    for state in view.states.as_slice() {
+        let start = StateStart { ring, at };
+        try_member(seals, start, state)?;
+        at = start.places(state).end;
     }
     Ok(())
 }

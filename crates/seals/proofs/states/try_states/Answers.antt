@@ -1,23 +1,16 @@
 -- Each turn tries one view state; what is left gives the answer.
-use Rattle.std.proofs.Common.{sym, ◌∙◌, arith, rules}
+use Rattle.std.proofs.Common.{refl, ap, arith, rules}
 use Rattle.quorum.specs.Rings.{stations_of}
-use Rattle.seals.specs.Reach.{in_reach}
-use Rattle.seals.proofs.Turns.{member_more, member_fault, members_all}
+use Rattle.records.specs.Places.{state_end}
+use Rattle.seals.proofs.Turns.{member_turn}
 use Rattle.seals.proofs.states.try_states.Goals as goal
 
-pub returns-in_err-place : goal.returns-in_err-place
-returns-in_err-place g c =
-    let f = member_fault (in_reach (g.B.SealBox.genuine c.args.seals.now)) (stations_of c.args.ring) c.loop-state.place c.args.states.now c.loop-state.state-index _ c.loop-state-test.true (sym c.try_member.ensures.value ∙ c.in_err-place.was) in
+pub returns-in_err-try_member : goal.returns-in_err-try_member
+returns-in_err-try_member g c =
+    let e = member_turn (g.B.SealBox.genuine c.args.seals.now) (stations_of c.args.ring) c.loop-state.at (state_end (stations_of c.args.ring) c.loop-state.at c.state-item.result) c.as_slice-state-items.result.now c.loop-state.state-index c.state-item.result c.loop-state-test.true c.state-item.is refl in
     search rules
 
 pub loop-state-preserved : goal.loop-state-preserved
-loop-state-preserved g c = (
-  sym (member_more (in_reach (g.B.SealBox.genuine c.args.seals.now)) (stations_of c.args.ring) c.loop-state.place c.args.states.now c.loop-state.state-index _ c.loop-state-test.true (sym c.try_member.ensures.value ∙ c.in_ok-place.was))
-      ∙ c.loop-state.invariant.0,
-  omega (arith, c.in_ok-place.ensures.bound),
-)
-
-pub returns : goal.returns
-returns g c =
-    sym (members_all (in_reach (g.B.SealBox.genuine c.args.seals.now)) (stations_of c.args.ring) c.loop-state.place c.args.states.now c.loop-state.state-index c.loop-state-test.false)
-    ∙ c.loop-state.invariant.0
+loop-state-preserved g c =
+    let e = member_turn (g.B.SealBox.genuine c.args.seals.now) (stations_of c.args.ring) c.loop-state.at c.places-at.result.end c.as_slice-state-items.result.now c.loop-state.state-index c.state-item.result c.loop-state-test.true c.state-item.is (ap (λ p. p.end) c.places-at.ensures.value) in
+    record { left = search rules; near = omega (arith, c.places-at.ensures.bound, c.loop-state.invariant.near) }

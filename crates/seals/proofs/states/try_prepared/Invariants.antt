@@ -1,0 +1,11 @@
+-- What is left of the certificates gives what all of them give.
+use Rattle.std.proofs.Common.{◌≡◌, ◌+◌, ◌*◌, drop}
+use Rattle.quorum.specs.Rings.{stations_of}
+use Rattle.records.specs.Places.{prepared_place}
+use Rattle.seals.specs.Tried.{prepared_seals, first_false}
+use Rattle.seals.proofs.states.try_prepared.Given as goal
+
+abbrev pub invariant-loop-i : goal.invariant-loop-i
+invariant-loop-i g l =
+    first_false (g.B.SealBox.genuine l.seals) (prepared_seals (stations_of l.fn.start.ring) (l.first + l.i * l.size) (drop l.i l.certificates))
+    ≡ first_false (g.B.SealBox.genuine l.seals) (prepared_seals (stations_of l.fn.start.ring) (prepared_place (stations_of l.fn.start.ring) l.fn.start.at l.fn.state) l.fn.state.prepared.items)
