@@ -6,7 +6,7 @@ use Rattle.informs.specs.Agreed.{agreed_by, most_alike}
 use Rattle.informs.specs.ProofsOfExecution.{Seals, ProofOfExecution}
 use Rattle.informs.specs.declared.agreed.Release.{Release}
 use Rattle.counter.specs.declared.parts.Asked.{Asked}
-use Rattle.counter.specs.declared.parts.Core.{Core}
+use Rattle.counter.specs.Standing.{Core}
 use Rattle.counter.specs.declared.parts.Ticket.{Ticket}
 
 -- the open request, where the ticket is of its client and its sequence
@@ -17,19 +17,19 @@ served (Some a) t =
 
 -- no request is open any more
 abbrev pub ended : Core → Core
-ended core = record { client = core.client; next = core.next; current = None }
+ended core = record { stations = core.stations; client = core.client; next = core.next; current = None }
 
 -- with what a quorum says alike: that, or the ticket back
 abbrev pub closed_on : Core → Ticket → Option Release → Result Release (Fault × Ticket) × Core
 closed_on core t None = (Err (TooEarly, t), core)
 closed_on core t (Some release) = (Ok release, ended core)
 
-abbrev pub closed_for : ℕ → Core → Ticket → Option Asked → Result Release (Fault × Ticket) × Core
-closed_for n core t None = (Err (NotNow 0, t), core)
-closed_for n core t (Some a) = closed_on core t (agreed_by n a.heard)
+abbrev pub closed_for : Core → Ticket → Option Asked → Result Release (Fault × Ticket) × Core
+closed_for core t None = (Err (NotNow 0, t), core)
+closed_for core t (Some a) = closed_on core t (agreed_by core.stations a.heard)
 
-abbrev pub closing : ℕ → Core → Ticket → Result Release (Fault × Ticket) × Core
-closing n core t = closed_for n core t (served core.current t)
+abbrev pub closing : Core → Ticket → Result Release (Fault × Ticket) × Core
+closing core t = closed_for core t (served core.current t)
 
 abbrev pub written_off : Core → Ticket → Option Asked → Result (Unit {0}) (Fault × Ticket) × Core
 written_off core t None = (Err (NotNow 0, t), core)

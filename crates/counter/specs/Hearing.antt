@@ -9,7 +9,7 @@ use Rattle.records.specs.declared.arrivals.Record.TheVariants as rec
 use Rattle.informs.specs.Alike.{same_request}
 use Rattle.informs.specs.ProofsOfExecution.{Seals, Sound}
 use Rattle.counter.specs.declared.parts.Asked.{Asked}
-use Rattle.counter.specs.declared.parts.Core.{Core}
+use Rattle.counter.specs.Standing.{Core}
 
 -- is an inform about the open request?
 abbrev pub about : Option Asked → Inform → Bool
@@ -36,10 +36,10 @@ noted (Some a) i = Some (record { request = a.request; heard = slice_set a.heard
 
 abbrev pub kept : Core → Result Inform Fault → Result (Unit {0}) Fault × Core
 kept core (Err f) = (Err f, core)
-kept core (Ok i) = (Ok tt, record { client = core.client; next = core.next; current = noted core.current i })
+kept core (Ok i) = (Ok tt, record { stations = core.stations; client = core.client; next = core.next; current = noted core.current i })
 
-abbrev pub hearing : Seals → ℕ → Core → List ℕ → Result (Unit {0}) Fault × Core
-hearing genuine n core bytes = kept core (taken genuine n core.current bytes)
+abbrev pub hearing : Seals → Core → List ℕ → Result (Unit {0}) Fault × Core
+hearing genuine core bytes = kept core (taken genuine core.stations core.current bytes)
 
 -- every inform that is kept is genuine and about the open request
 abbrev pub SoundIn : Seals → Option Asked → Type 0

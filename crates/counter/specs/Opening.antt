@@ -7,7 +7,7 @@ use Rattle.records.specs.Writing.{record_bytes}
 use Rattle.records.specs.declared.arrivals.Record.TheVariants as rec
 use Rattle.records.specs.declared.request.Request.{Request}
 use Rattle.counter.specs.declared.parts.Asked.{Asked}
-use Rattle.counter.specs.declared.parts.Core.{Core}
+use Rattle.counter.specs.Standing.{Core}
 use Rattle.counter.specs.declared.parts.Ticket.{Ticket}
 
 abbrev pub last_sequence : ℕ
@@ -39,7 +39,7 @@ abbrev pub opened : Core → Result Request Fault → Result Ticket Fault × Cor
 opened core (Err f) = (Err f, core)
 opened core (Ok r) = (
   Ok (record { client = r.client; sequence = r.sequence }),
-  record { client = core.client; next = core.next + 1; current = Some (unheard r) },
+  record { stations = core.stations; client = core.client; next = core.next + 1; current = Some (unheard r) },
 )
 
 -- the tray after: the request behind what was sent before, or nothing new

@@ -1,44 +1,42 @@
 // The calls on a counter.
 ghost use Rattle.std.specs.Prelude.{◌≡◌, ℕ, ◌+◌, true, length, IfOk, nat_le};
-ghost use Rattle.quorum.specs.Rings.{stations_of};
+ghost use Rattle.std.specs.Option.{option_copied};
 ghost use Rattle.informs.specs.ProofsOfExecution.{Seals};
-ghost use Rattle.counter.specs.Making.{seen, made_of};
+ghost use Rattle.counter.specs.Making.{made_of};
 ghost use Rattle.counter.specs.Opening.{asks, opened, Posted};
 ghost use Rattle.counter.specs.Hearing.{taken, hearing, SoundIn};
 ghost use Rattle.counter.specs.Closing.{served, closing, writing_off, most_in, Released};
 
-use crate::parts::{Asked, Core, Ticket};
-use crate::sealing::{REQUEST_SIZE, sealed};
+use crate::parts::{Asked, Ticket};
+use crate::sealing::{COVERED_SIZE, is_genuine, sealed};
 use crate::state::Counter;
 use informs::agreed::{Release, agreed, most};
-use informs::alike::same_request;
 use outbox::sending::write;
-use outbox::tray::Fill;
+use outbox::tray::Tray;
 use payload::Payload;
 use quorum::figures::Ring;
+use quorum::limits::FIRST_CLIENT;
 use quorum::refusal::Fault;
 use reader::reading::read_inform;
 use records::arrivals::{Inform, Record};
+use records::places::{PROPOSAL_SIZE, SEAL_SIZE};
 use records::request::Request;
 use seal_box::SealBox;
 
-const FIRST_CLIENT: u16 = 1000;
+// the bytes of a request
+const REQUEST_SIZE: usize = COVERED_SIZE + SEAL_SIZE;
 
-const LAST_SEQUENCE: u64 = 4_294_967_295;
-
-// the places of an inform's sender, view and seal, and the size of a seal
+// the places of an inform's sender and view, and of its seal behind the proposal and the result
 const SENDER_PLACE: usize = 2;
 
 const VIEW_PLACE: usize = 3;
 
-const SEAL_PLACE: usize = 49;
-
-const SEAL_SIZE: usize = 8;
+const SEAL_PLACE: usize = VIEW_PLACE + PROPOSAL_SIZE + 8;
 
 impl Counter {
     // A counter for a ring of so many stations and its box's client.
     pub fn new<B: SealBox>(stations: usize, seals: &B, first: u32) -> Result<Counter, Fault>
-        ensures { seen result ≡ made_of stations (B.own seals.now) first }
+        ensures { result ≡ made_of stations (B.own seals.now) first }
     {
         let ring = Ring::new(stations)?;
         let client = seals.own();
@@ -48,26 +46,30 @@ impl Counter {
         if first == 0 {
             return Err(Fault::OutOfRange(0));
         }
-        let core = Core {
+        Ok(Counter {
+            ring,
             client,
             next: u64::from(first),
             current: None,
-        };
-        Ok(Counter { ring, core })
+        })
     }
 
     // The sealed request of an opening, where none is open and the sequences are not used up.
-    fn asking<B: SealBox>(&self, seals: &B, bytes: &[u8; 16]) -> Result<Request, Fault>
-        ensures value { result ≡ asks true (B.tag seals.now) self.now.core bytes.now }
+    fn asking<B: SealBox>(&self, seals: &B, payload: Payload) -> Result<Request, Fault>
+        ensures value { result ≡ asks true (B.tag seals.now) self.now payload.bytes }
         ensures long { IfOk result (λ q. length q.payload.bytes ≡ 16) }
     {
-        if self.core.current.is_some() {
+        if self.current.is_some() {
             return Err(Fault::NotNow(0));
         }
-        if self.core.next > LAST_SEQUENCE {
-            return Err(Fault::OutOfRange(0));
-        }
-        sealed(seals, self.core.client, self.core.next as u32, bytes)
+        let sequence = u32::try_from(self.next).map_err(|_| Fault::OutOfRange(0))?;
+        let request = Request {
+            client: self.client,
+            sequence,
+            payload,
+            seal: 0,
+        };
+        sealed(seals, request)
     }
 
     // Opening seals a request into the tray and hands out its ticket. A refused opening uses up no sequence.
@@ -75,28 +77,23 @@ impl Counter {
         &mut self,
         seals: &B,
         payload: Payload,
-        memory: &mut [u8],
-        fill: &mut Fill,
+        tray: &mut Tray<'_>,
     ) -> Result<Ticket, Fault>
-        ensures answer { (result, self.new.core) ≡ opened self.old.core (asks (nat_le (fill.old.used + 32) (length memory.old)) (B.tag seals.now) self.old.core payload.bytes) }
-        ensures ring { self.new.ring ≡ self.old.ring }
-        ensures tray { Posted memory.old memory.new fill.old.used fill.new.used (asks (nat_le (fill.old.used + 32) (length memory.old)) (B.tag seals.now) self.old.core payload.bytes) }
-        ensures sound { (genuine : Seals) → SoundIn genuine self.old.core.current → SoundIn genuine self.new.core.current }
+        ensures answer { (result, self.new) ≡ opened self.old (asks (nat_le (tray.old.fill.used + 32) (length tray.old.memory.now)) (B.tag seals.now) self.old payload.bytes) }
+        ensures same { tray.new.memory.ghost_name ≡ tray.old.memory.ghost_name }
+        ensures tray { Posted tray.old.memory.now tray.new.memory.now tray.old.fill.used tray.new.fill.used (asks (nat_le (tray.old.fill.used + 32) (length tray.old.memory.now)) (B.tag seals.now) self.old payload.bytes) }
+        ensures sound { (genuine : Seals) → SoundIn genuine self.old.current → SoundIn genuine self.new.current }
     {
-        if memory.len() < fill.used || memory.len() - fill.used < REQUEST_SIZE {
+        if tray.memory.len().saturating_sub(tray.fill.used) < REQUEST_SIZE {
             return Err(Fault::NoRoom);
         }
-        let request = self.asking(seals, &payload.bytes)?;
-        write(&Record::Request(request), memory, fill)?;
-        let current = Some(Asked {
+        let request = self.asking(seals, payload)?;
+        write(&Record::Request(request), tray)?;
+        self.next += 1;
+        self.current = Some(Asked {
             request,
             heard: [None; 10],
         });
-        self.core = Core {
-            client: self.core.client,
-            next: self.core.next + 1,
-            current,
-        };
         Ok(Ticket {
             client: request.client,
             sequence: request.sequence,
@@ -105,55 +102,45 @@ impl Counter {
 
     // The inform that the bytes hold, where it is genuine and about the open request.
     fn accepted<B: SealBox>(&self, seals: &B, bytes: &[u8]) -> Result<Inform, Fault>
-        ensures { result ≡ taken (B.genuine seals.now) (stations_of self.now.ring) self.now.core.current bytes.now }
+        ensures { result ≡ taken (B.genuine seals.now) self.now.stations self.now.current bytes.now }
     {
         let inform = read_inform(bytes)?;
         if inform.sender >= self.ring.stations() {
             return Err(Fault::WrongSender(SENDER_PLACE));
         }
-        let statement = &bytes[0..bytes.len() - SEAL_SIZE];
-        if !seals.ask(u16::from(inform.sender), statement, inform.seal) {
+        if !is_genuine(seals, &inform, bytes) {
             return Err(Fault::NotGenuine(SEAL_PLACE));
         }
-        let Some(asked) = &self.core.current else {
-            return Err(Fault::NotNow(VIEW_PLACE));
-        };
-        if !same_request(&asked.request, &inform.proposal.request) {
-            return Err(Fault::NotNow(VIEW_PLACE));
+        match &self.current {
+            Some(asked) if asked.request == inform.proposal.request => Ok(inform),
+            _ => Err(Fault::NotNow(VIEW_PLACE)),
         }
-        Ok(inform)
     }
 
     // Hearing keeps a station's latest inform about the open request.
     pub fn hear<B: SealBox>(&mut self, seals: &B, bytes: &[u8]) -> Result<(), Fault>
-        ensures answer { (result, self.new.core) ≡ hearing (B.genuine seals.now) (stations_of self.old.ring) self.old.core bytes.now }
-        ensures ring { self.new.ring ≡ self.old.ring }
-        ensures sound { SoundIn (B.genuine seals.now) self.old.core.current → SoundIn (B.genuine seals.now) self.new.core.current }
+        ensures answer { (result, self.new) ≡ hearing (B.genuine seals.now) self.old bytes.now }
+        ensures sound { SoundIn (B.genuine seals.now) self.old.current → SoundIn (B.genuine seals.now) self.new.current }
     {
         let inform = self.accepted(seals, bytes)?;
-        if let Some(mut asked) = self.core.current {
+        if let Some(asked) = &mut self.current {
             asked.heard[usize::from(inform.sender)] = Some(inform);
-            self.core.current = Some(asked);
         }
         Ok(())
     }
 
     // The open request, where the ticket is for it.
-    fn served(&self, ticket: &Ticket) -> Option<Asked>
-        ensures { result ≡ served self.now.core.current ticket.now }
+    fn served(&self, ticket: &Ticket) -> Option<&Asked>
+        ensures { option_copied result ≡ served self.now.current ticket.now }
     {
-        let asked = self.core.current?;
-        if asked.request.client != ticket.client || asked.request.sequence != ticket.sequence {
-            return None;
-        }
-        Some(asked)
+        let open = self.current.as_ref();
+        open.filter(|asked| ticket.is_for(&asked.request))
     }
 
     // Closing gives what a quorum of stations tells alike, or the refusal with the ticket.
     pub fn close(&mut self, ticket: Ticket) -> Result<Release, (Fault, Ticket)>
-        ensures answer { (result, self.new.core) ≡ closing (stations_of self.old.ring) self.old.core ticket }
-        ensures ring { self.new.ring ≡ self.old.ring }
-        ensures proof { (genuine : Seals) → SoundIn genuine self.old.core.current → Released genuine (stations_of self.old.ring) self.old.core.current result }
+        ensures answer { (result, self.new) ≡ closing self.old ticket }
+        ensures proof { (genuine : Seals) → SoundIn genuine self.old.current → Released genuine self.old.stations self.old.current result }
     {
         let Some(asked) = self.served(&ticket) else {
             return Err((Fault::NotNow(0), ticket));
@@ -161,37 +148,28 @@ impl Counter {
         let Some(release) = agreed(self.ring, &asked.heard) else {
             return Err((Fault::TooEarly, ticket));
         };
-        let Ticket {
-            client: _,
-            sequence: _,
-        } = ticket;
-        self.core.current = None;
+        ticket.spend();
+        self.current = None;
         Ok(release)
     }
 
     // Writing off ends the open request without an answer.
     pub fn write_off(&mut self, ticket: Ticket) -> Result<(), (Fault, Ticket)>
-        ensures answer { (result, self.new.core) ≡ writing_off self.old.core ticket }
-        ensures ring { self.new.ring ≡ self.old.ring }
+        ensures { (result, self.new) ≡ writing_off self.old ticket }
     {
-        let Some(_) = self.served(&ticket) else {
+        if self.served(&ticket).is_none() {
             return Err((Fault::NotNow(0), ticket));
-        };
-        let Ticket {
-            client: _,
-            sequence: _,
-        } = ticket;
-        self.core.current = None;
+        }
+        ticket.spend();
+        self.current = None;
         Ok(())
     }
 
     // How many stations' latest informs are alike, at the most.
     pub fn alike(&self) -> u8
-        ensures { result ≡ most_in self.now.core.current }
+        ensures { result ≡ most_in self.now.current }
     {
-        match &self.core.current {
-            None => 0,
-            Some(asked) => most(self.ring, &asked.heard),
-        }
+        let open = self.current.as_ref();
+        open.map_or(0, |asked| most(&asked.heard))
     }
 }

@@ -1,39 +1,36 @@
-// A request under its client's seal.
-ghost use Rattle.std.specs.Prelude.{◌≡◌, length, IfOk, Ok};
-ghost use Rattle.counter.specs.Opening.{sealed_by, unsealed};
+// The seals of a client's side: its request's, and those of the informs that it hears.
+ghost use Rattle.std.specs.Prelude.{◌≡◌, Ok};
+ghost use Rattle.records.specs.Statements.{covered};
+ghost use Rattle.records.specs.Writing.{record_bytes};
+ghost use Rattle.records.specs.declared.arrivals.Record.TheVariants as rec;
+ghost use Rattle.counter.specs.Opening.{sealed_by};
 
-use outbox::sending::write;
-use outbox::tray::Fill;
-use payload::Payload;
+use outbox::statements::cover;
 use quorum::refusal::Fault;
-use records::arrivals::Record;
+use records::arrivals::Inform;
+use records::places::SEAL_SIZE;
 use records::request::Request;
+use records::statement::Said;
 use seal_box::SealBox;
 
-// a request as a record, and the part of it that its seal covers
-pub(crate) const REQUEST_SIZE: usize = 32;
+// the part of a request that its seal covers
+pub(crate) const COVERED_SIZE: usize = 24;
 
-const COVERED_SIZE: usize = 24;
-
-// The request is laid out as it will be sent, and the box seals the part before the seal.
-pub(crate) fn sealed<B: SealBox>(
-    seals: &B,
-    client: u16,
-    sequence: u32,
-    bytes: &[u8; 16],
-) -> Result<Request, Fault>
-    ensures value { result ≡ Ok (sealed_by (B.tag seals.now) (unsealed client sequence bytes.now)) }
-    ensures long { IfOk result (λ q. length q.payload.bytes ≡ 16) }
+// The request under the seal that the box gives it.
+pub(crate) fn sealed<B: SealBox>(seals: &B, request: Request) -> Result<Request, Fault>
+    ensures { result ≡ Ok (sealed_by (B.tag seals.now) request) }
 {
-    let request = Request {
-        client,
-        sequence,
-        payload: Payload { bytes: *bytes },
-        seal: 0,
-    };
-    let mut paper = [0; REQUEST_SIZE];
-    let mut fill = Fill { used: 0 };
-    write(&Record::Request(request), &mut paper, &mut fill)?;
-    let seal = seals.seal(&paper[0..COVERED_SIZE]);
+    let mut paper = [0; COVERED_SIZE];
+    let end = cover(Said::Asks(&request), &mut paper)?;
+    let seal = seals.seal(&paper[..end]);
     Ok(Request { seal, ..request })
+}
+
+// Is the inform that the bytes hold its sender's? Its seal stands last in them.
+pub(crate) fn is_genuine<B: SealBox>(seals: &B, inform: &Inform, bytes: &[u8]) -> bool
+    requires { record_bytes (rec.Inform inform.now) ≡ bytes.now }
+    ensures { result ≡ B.genuine seals.now inform.now.sender (covered (rec.Inform inform.now)) inform.now.seal }
+{
+    let end = bytes.len() - SEAL_SIZE;
+    seals.ask(u16::from(inform.sender), &bytes[..end], inform.seal)
 }

@@ -74,6 +74,16 @@ proof_of genuine n request h release p s e = go (first_backed (quorum_of n) h h)
           agree = subst (λ x. Every (Tells request x) (supporters h w)) is (tells_of genuine request w h s);
         }
 
+-- a row of a ring is a row of a larger one
+pub placed_more : (n m k : ℕ) (h : List (Option Inform)) → n ≤ m → placed_from n k h ≡ true → placed_from m k h ≡ true
+placed_more n m k [] l p = refl
+placed_more n m k (None ∷ h) l p = placed_more n m (suc k) h l p
+placed_more n m k (Some i ∷ h) l p =
+    let f = first_of n k i h p in
+    let low = f.1.0 in
+    let ih = placed_more n m (suc k) h l f.1.1 in
+    grind (arith, nat_tests)
+
 -- an inform in its place keeps a row placed, and a genuine one about the request keeps it sound
 pub placed_set : (n k j : ℕ) (h : List (Option Inform)) (i : Inform) → placed_from n k h ≡ true → i.sender ≡ k + j → k + j < n → placed_from n k (set h j (Some i)) ≡ true
 placed_set n k j [] i p e b = refl

@@ -1,11 +1,9 @@
 -- Counting the words of a row is counting the stations that are alike, whatever the tally names. Assumes nothing.
-use Rattle.std.proofs.Common.{◌≡◌, ℕ, zero, suc, ◌+◌, ◌-◌, ◌<◌, ◌≤◌, Bool, true, false, cond, ltb, leb, ◌⊎◌, List, [], ◌∷◌, ◌++◌, length, get_or, take, set, replicate, is_some, Some, None, Option, sym, refl, ap, ◌∙◌, subst, inl, inr, ⊎_elim, arith}
-use Rattle.std.proofs.lemmas.List.{set_at, append_assoc, length_push, take_more, length-take-le, append-nil, take_at}
-use Rattle.std.proofs.lemmas.Bool.{cond-true, cond-false, lt-ltb, lt-leb}
+use Rattle.std.proofs.Common.{◌≡◌, ℕ, zero, suc, ◌+◌, ◌-◌, ◌<◌, ◌≤◌, max, fold, Bool, true, false, cond, leb, ◌⊎◌, List, [], ◌∷◌, ◌++◌, length, get_or, take, Some, None, Option, sym, refl, ap, ◌∙◌, subst, inl, inr, ⊎_elim, arith}
+use Rattle.std.proofs.lemmas.List.{take_more, length-take-le, append-nil}
+use Rattle.std.proofs.lemmas.Bool.{cond-true, cond-false, lt-leb}
 use Rattle.std.proofs.lemmas.Bool.Decides.{nat_tests}
 use Rattle.quorum.specs.Figures.{quorum_of}
-use Rattle.records.specs.Lists.{filled, pushed, listed}
-use Rattle.records.specs.declared.few.Few.{Few}
 use Rattle.records.specs.declared.arrivals.Inform.{Inform}
 use Rattle.tally.specs.Tallies.{has, different, sharers, shared, Among, Each, Carried, Short, Tallied}
 use Rattle.informs.specs.Alike.{alike}
@@ -165,13 +163,17 @@ first_none m n all (Some i ∷ h) a e =
     let not-enough : leb m (backers all i) ≡ false = lt-leb m (backers all i) (omega arith) in
     cond-false (leb m (backers all i)) (Some i) (first_backed m all h) not-enough ∙ first_none m n all h a e.1
 
--- the answer where the tally names none, and where it names a station
-module _ (n : ℕ) (h : List (Option Inform)) (some : 1 ≤ n) (p : placed n h ≡ true) where
-  pub agreed_none : Tallied signed agrees (told h) (quorum_of n) None → None ≡ agreed_by n h
-  agreed_none t = sym (ap released (first_none (quorum_of n) n h h p (t (omega arith))))
+-- the answer where the tally of a row's words names none, and where it names a station
+module _ (n : ℕ) (h : List (Option Inform)) (some : 1 ≤ n) (p : placed n h ≡ true) (words : List Told) (all : words ≡ told h) (m : ℕ) (enough : m ≡ quorum_of n) (r : Option ℕ) (t : Tallied signed agrees words m r) where
+  of_row : Tallied signed agrees (told h) (quorum_of n) r
+  of_row = subst (λ x. Tallied signed agrees (told h) x r) enough (subst (λ x. Tallied signed agrees x m r) all t)
 
-  pub agreed_some : (s : ℕ) → Tallied signed agrees (told h) (quorum_of n) (Some s) → (s < n) × (released (get_or h s None) ≡ agreed_by n h)
-  agreed_some s t =
+  pub agreed_none : r ≡ None → None ≡ agreed_by n h
+  agreed_none e = sym (ap released (first_none (quorum_of n) n h h p (subst (Tallied signed agrees (told h) (quorum_of n)) e of_row (omega arith))))
+
+  pub agreed_some : (s : ℕ) → r ≡ Some s → (s < n) × (released (get_or h s None) ≡ agreed_by n h)
+  agreed_some s e =
+      let t = subst (Tallied signed agrees (told h) (quorum_of n)) e of_row in
       let c = named n (quorum_of n) 0 s h h p p t.1 in
       let f = first_there (quorum_of n) h h c.place c.word c.stands c.backed in
       let e : s ≡ c.place = let i = c.is in omega arith in (
@@ -182,26 +184,7 @@ module _ (n : ℕ) (h : List (Option Inform)) (some : 1 ≤ n) (p : placed n h �
             ∙ sym (ap released f.stands),
       )
 
--- the most that are alike, where the tally names none for m, and where it names a station
-most_below : (m n : ℕ) (all h : List (Option Inform)) → placed n all ≡ true → 1 ≤ m → Each (Short signed agrees (told all) m) (told h) → most_from all h < m
-most_below m n all [] a l e = l
-most_below m n all (None ∷ h) a l e = most_below m n all h a l e
-most_below m n all (Some i ∷ h) a l e =
-    let is = shared_is n 0 (told_by i) all a in
-    let few = e.0 in
-    let ih = most_below m n all h a l e.1 in
-    omega arith
-
-most_above : (m : ℕ) (all h : List (Option Inform)) (place : ℕ) (w : Inform) → get_or h place None ≡ Some w → m ≤ backers all w → m ≤ most_from all h
-most_above m all [] place w e b = absurd (grind arith)
-most_above m all (None ∷ h) zero w e b = absurd (grind arith)
-most_above m all (None ∷ h) (suc place) w e b = most_above m all h place w e b
-most_above m all (Some i ∷ h) zero w e b =
-    let same : i ≡ w = grind arith in
-    let here : m ≤ backers all i = subst (λ x. m ≤ backers all x) (sym same) b in
-    omega arith
-most_above m all (Some i ∷ h) (suc place) w e b = let ih = most_above m all h place w e b in omega arith
-
+-- no more are alike than there are stations
 some_of : (b : Bool) (i : Inform) (xs : List Inform) (k : ℕ) → length xs ≤ k → length (cond b (i ∷ xs) xs) ≤ suc k
 some_of true i xs k l = omega arith
 some_of false i xs k l = omega arith
@@ -219,38 +202,11 @@ most_few all (Some i ∷ h) =
     let ih = most_few all h in
     omega arith
 
-module _ (n : ℕ) (h : List (Option Inform)) (p : placed n h ≡ true) where
-  pub most_none : (m : ℕ) → 1 ≤ m → Tallied signed agrees (told h) m None → most_alike h < m
-  most_none m l t = most_below m n h h p l (t l)
-
-  pub most_some : (m s : ℕ) → Tallied signed agrees (told h) m (Some s) → m ≤ most_alike h
-  most_some m s t =
-      let c = named n m 0 s h h p p t.1 in
-      most_above m h h c.place c.word c.stands c.backed
-
-  pub most_in_ring : most_alike h ≤ n
-  most_in_ring =
-      let a = most_few h h in
-      let b = told_few n 0 h p in
-      omega arith
-
-  pub most_if : (m : ℕ) (r : Option ℕ) → 1 ≤ m → Tallied signed agrees (told h) m r → (is_some r ≡ true → m ≤ most_alike h) × (is_some r ≡ false → most_alike h < m)
-  most_if m None l t = (λ e. absurd (grind arith), λ _. most_none m l t)
-  most_if m (Some s) l t = (λ _. most_some m s t, λ e. absurd (grind arith))
-
--- a short list with one value more
-abbrev mk : List Told → ℕ → Few Told 10
-mk items len = record { items = items; len = len }
-
-pub pushed_on : (b : Told) (xs : List Told) (x : Told) → length xs < 10 → pushed 10 (filled b 10 xs) x ≡ filled b 10 (xs ++ x ∷ [])
-pushed_on b xs x l =
-    let k = length xs in
-    let rest = replicate (10 - (length xs + 1)) b in
-    let one : 10 - length xs ≡ suc (10 - (length xs + 1)) = omega arith in
-    cond-true (ltb (length xs) 10) (mk (set (xs ++ replicate (10 - length xs) b) (length xs) x) (length xs + 1)) (filled b 10 xs) (lt-ltb (length xs) 10 l)
-    ∙ ap (λ z. mk (set (xs ++ replicate z b) (length xs) x) (length xs + 1)) one
-    ∙ ap (λ z. mk z (length xs + 1)) (set_at xs b rest x (length xs) refl ∙ sym (append_assoc xs (x ∷ []) rest))
-    ∙ ap (λ z. mk ((xs ++ x ∷ []) ++ replicate (10 - z) b) z) (sym (length_push xs x))
+pub most_in_ring : (n : ℕ) (h : List (Option Inform)) → placed n h ≡ true → most_alike h ≤ n
+most_in_ring n h p =
+    let a = most_few h h in
+    let b = told_few n 0 h p in
+    omega arith
 
 told_on : (h : List (Option Inform)) (o : Option Inform) → told (h ++ o ∷ []) ≡ told h ++ told (o ∷ [])
 told_on [] o = refl
@@ -275,12 +231,16 @@ module _ (h : List (Option Inform)) (i : ℕ) (d : Option Inform) (l : i < lengt
       let b = length-take-le i h (omega arith) in
       omega arith
 
--- a short list as the values that it was filled with
-pub listed_filled : (b : Told) (xs : List Told) (few : Few Told 10) → few ≡ filled b 10 xs → listed few ≡ xs
-listed_filled b xs few e = ap listed e ∙ take_at xs (replicate (10 - length xs) b) (length xs) refl
+-- the largest count of a row's words
+largest : (n : ℕ) (all h : List (Option Inform)) (a : ℕ) → placed n all ≡ true → fold (λ m x. max m (shared signed agrees (told all) x)) a (told h) ≡ max a (most_from all h)
+largest n all [] a p = omega arith
+largest n all (None ∷ h) a p = largest n all h a p
+largest n all (Some i ∷ h) a p =
+    let e = shared_is n 0 (told_by i) all p in
+    let ih = largest n all h (max a (shared signed agrees (told all) (told_by i))) p in
+    omega arith
 
--- what the tally says of a slice that holds the words of a row
-pub of_row : (h : List (Option Inform)) (words : List Told) (few : Few Told 10) (b : Told) (m k : ℕ) (r : Option ℕ) → few ≡ filled b 10 (told h) → words ≡ listed few → m ≡ k → Tallied signed agrees words m r → Tallied signed agrees (told h) k r
-of_row h words few b m k r e l q t =
-    subst (λ x. Tallied signed agrees (told h) x r) q
-    (subst (λ x. Tallied signed agrees x m r) (l ∙ listed_filled b (told h) few e) t)
+pub most_is : (n : ℕ) (h : List (Option Inform)) (words : List Told) → placed n h ≡ true → words ≡ told h → fold (λ m x. max m (shared signed agrees words x)) 0 words ≡ most_alike h
+most_is n h words p e =
+    let l = largest n h h 0 p in
+    ap (λ ws. fold (λ m x. max m (shared signed agrees ws x)) 0 ws) e ∙ omega arith

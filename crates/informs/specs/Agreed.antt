@@ -3,7 +3,6 @@ use Rattle.std.specs.Prelude.{ℕ, suc, max, Bool, true, cond, ◌&&◌, List, [
 use Rattle.quorum.specs.Figures.{quorum_of}
 use Rattle.records.specs.declared.arrivals.Inform.{Inform}
 use Rattle.informs.specs.Alike.{alike}
-use Rattle.records.specs.Blanks.{blank_proposal}
 use Rattle.informs.specs.declared.alike.Told.{Told}
 use Rattle.informs.specs.declared.agreed.Release.{Release}
 
@@ -15,10 +14,6 @@ abbrev pub told : List (Option Inform) → List Told
 told [] = []
 told (None ∷ heard) = told heard
 told (Some i ∷ heard) = told_by i ∷ told heard
-
--- what fills a place that holds no word
-abbrev pub blank_told : Told
-blank_told = told_by (record { sender = 0; proposal = blank_proposal; result = 0; seal = 0 })
 
 -- from place k on, each inform stands at its sender's place, and no place at n or above has one
 abbrev pub placed_from : ℕ → ℕ → List (Option Inform) → Bool

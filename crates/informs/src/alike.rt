@@ -11,14 +11,11 @@ use tally::Word;
 pub fn same_request(a: &Request, b: &Request) -> bool
     ensures { result ≡ same_request a.now b.now }
 {
-    a.client == b.client
-        && a.sequence == b.sequence
-        && a.seal == b.seal
-        && a.payload.bytes == b.payload.bytes
+    a == b
 }
 
 // An inform as its station's word.
-#[derive(Clone, Copy)]
+#[derive(Clone, Copy, Default)]
 pub struct Told {
     pub inform: Inform,
 }
@@ -41,9 +38,6 @@ impl Word for Told {
 
     fn same(&self, other: &Told) -> bool {
         let (a, b) = (&self.inform, &other.inform);
-        a.proposal.view == b.proposal.view
-            && a.proposal.round == b.proposal.round
-            && a.result == b.result
-            && same_request(&a.proposal.request, &b.proposal.request)
+        a.proposal == b.proposal && a.result == b.result
     }
 }

@@ -1,59 +1,53 @@
--- One turn and the end of each loop over words. Assumes nothing.
-use Rattle.std.proofs.Common.{◌≡◌, ℕ, suc, ◌+◌, ◌-◌, ◌<◌, ◌≤◌, Bool, true, false, cond, eqb, List, [], ◌∷◌, ◌++◌, length, get_or, take, drop, sym, refl, ap, ◌∙◌, subst, inl, inr}
-use Rattle.std.proofs.lemmas.List.{drop_more, drop_all, take_more, take_all, take-append-drop, take_rest}
-use Rattle.tally.specs.Tallies.{has, different, sharers, shared, Among, Each}
+-- What one word adds to those who share a word, and what a search among the words finds. Assumes nothing.
+use Rattle.std.proofs.Common.{◌≡◌, ℕ, suc, ◌-◌, ◌≤◌, Bool, true, false, cond, eqb, ◌&&◌, ◌||◌, List, [], ◌∷◌, length, get_or, take, drop, Some, leb, refl, sym, ap, ◌∙◌, inl, inr, arith}
+use Rattle.std.proofs.lemmas.Bool.Decides.{nat_tests}
+use Rattle.std.proofs.lemmas.Bool.{leb-true}
+use Rattle.std.proofs.lemmas.List.{take_all}
+use Rattle.std.specs.List.{list_any, find}
+use Rattle.tally.specs.Tallies.{has, different, sharers, shared, Among, Carried}
 
--- what is left of a list begins with what was read there
-pub drop_read : {X : Type 0} (xs : List X) (i : ℕ) (x : X) → i < length xs → x ≡ get_or xs i x → drop i xs ≡ x ∷ drop (i + 1) xs
-drop_read xs i x h e = drop_more xs i x h ∙ ap (λ y. y ∷ drop (i + 1) xs) (sym e)
+module _ {W : Type 0} (signer : W → ℕ) (same : W → W → Bool) (w : W) where
+  abbrev says : ℕ → List W → Bool
+  says s words = list_any (λ x. same x w && eqb (signer x) s) words
 
-pub take_read : {X : Type 0} (xs : List X) (i : ℕ) (x : X) → i < length xs → x ≡ get_or xs i x → take (i + 1) xs ≡ take i xs ++ x ∷ []
-take_read xs i x h e = take_more xs i x h ∙ ap (λ y. take i xs ++ y ∷ []) (sym e)
-
-pub among_behind : {X : Type 0} (P : X → Type 0) (xs ys : List X) → Among P ys → Among P (xs ++ ys)
-among_behind P [] ys a = a
-among_behind P (x ∷ xs) ys a = inr (among_behind P xs ys a)
-
-pub each_push : {X : Type 0} (P : X → Type 0) (xs : List X) (x : X) → Each P xs → P x → Each P (xs ++ x ∷ [])
-each_push P [] x e p = (p, tt)
-each_push P (y ∷ ys) x e p = (e.0, each_push P ys x e.1 p)
-
-module _ {X : Type 0} (P : X → Type 0) (xs : List X) (i : ℕ) where
-  -- what holds of the word that stands at a place holds among the words
-  pub among_read : (x : X) → i < length xs → x ≡ get_or xs i x → P x → Among P xs
-  among_read x h e p =
-      subst (Among P) (ap (λ l. take i xs ++ l) (sym (drop_read xs i x h e)) ∙ take-append-drop i xs)
-      (among_behind P (take i xs) (x ∷ drop (i + 1) xs) (inl p))
-
-  pub each_more : (x : X) → i < length xs → x ≡ get_or xs i x → Each P (take i xs) → P x → Each P (take (i + 1) xs)
-  each_more x h e ps p = subst (Each P) (sym (take_read xs i x h e)) (each_push P (take i xs) x ps p)
-
-  pub each_all : length xs ≤ i → Each P (take i xs) → Each P xs
-  each_all h ps = subst (Each P) (take_all i xs h) ps
-
-module _ {W : Type 0} (signer : W → ℕ) (same : W → W → Bool) (w : W) (words : List W) (i : ℕ) where
-  -- who says the same, one word on
-  pub says_at : (s : ℕ) (x : W) → i < length words → x ≡ get_or words i x → has s (sharers signer same w (drop i words)) ≡ cond (same x w) (cond (eqb (signer x) s) true (has s (sharers signer same w (drop (i + 1) words)))) (has s (sharers signer same w (drop (i + 1) words)))
-  says_at s x h e = ap (λ l. has s (sharers signer same w l)) (drop_read words i x h e) ∙ go (same x w)
+  -- who says the same is among those who share the word
+  has-sharers : (s : ℕ) (words : List W) → has s (sharers signer same w words) ≡ says s words
+  has-sharers s [] = refl
+  has-sharers s (x ∷ xs) = go (same x w) (has-sharers s xs)
     where
-      go : (b : Bool) → has s (cond b (signer x ∷ sharers signer same w (drop (i + 1) words)) (sharers signer same w (drop (i + 1) words))) ≡ cond b (cond (eqb (signer x) s) true (has s (sharers signer same w (drop (i + 1) words)))) (has s (sharers signer same w (drop (i + 1) words)))
-      go true = refl
-      go false = refl
+      go : (b : Bool) → has s (sharers signer same w xs) ≡ says s xs → has s (cond b (signer x ∷ sharers signer same w xs) (sharers signer same w xs)) ≡ ((b && eqb (signer x) s) || says s xs)
+      go true e = grind (arith, nat_tests)
+      go false e = e
 
-  pub says_end : (s : ℕ) → length words ≤ i → has s (sharers signer same w (drop i words)) ≡ false
-  says_end s h = ap (λ l. has s (sharers signer same w l)) (drop_all i words h)
+  -- a word that is the first of some, with the slice of those behind it
+  module _ (words : List W) (x : W) (some : 1 ≤ length words) (first : x ≡ get_or words 0 x) where
+    abbrev pub later : List W
+    later = take (length words - 1) (drop 1 words)
 
-  -- the rest of the words, as a slice of them
-  pub says_rest : (s : ℕ) → has s (sharers signer same w (take (length words - i) (drop i words))) ≡ has s (sharers signer same w (drop i words))
-  says_rest s = ap (λ l. has s (sharers signer same w l)) (take_rest words i)
+    is_first : (ys : List W) → 1 ≤ length ys → x ≡ get_or ys 0 x → x ∷ take (length ys - 1) (drop 1 ys) ≡ ys
+    is_first [] l e = absurd (omega arith)
+    is_first (y ∷ ys) l e = ap (λ z. z ∷ take (length (y ∷ ys) - 1) ys) e ∙ ap (λ l. y ∷ l) (take_all (length (y ∷ ys) - 1) ys (omega arith))
 
-  -- how many different signers say the same, one word on
-  pub shared_at : (x : W) → i < length words → x ≡ get_or words i x → shared signer same (drop i words) w ≡ cond (same x w) (cond (has (signer x) (sharers signer same w (drop (i + 1) words))) (shared signer same (drop (i + 1) words) w) (suc (shared signer same (drop (i + 1) words) w))) (shared signer same (drop (i + 1) words) w)
-  shared_at x h e = ap (λ l. shared signer same l w) (drop_read words i x h e) ∙ go (same x w)
-    where
-      go : (b : Bool) → different (cond b (signer x ∷ sharers signer same w (drop (i + 1) words)) (sharers signer same w (drop (i + 1) words))) ≡ cond b (cond (has (signer x) (sharers signer same w (drop (i + 1) words))) (shared signer same (drop (i + 1) words) w) (suc (shared signer same (drop (i + 1) words) w))) (shared signer same (drop (i + 1) words) w)
-      go true = refl
-      go false = refl
+    pub passed : same x w ≡ false → shared signer same later w ≡ shared signer same words w
+    passed e = ap (λ b. different (cond b (signer x ∷ sharers signer same w later) (sharers signer same w later))) (sym e) ∙ ap (λ l. shared signer same l w) (is_first words some first)
 
-  pub shared_end : length words ≤ i → shared signer same (drop i words) w ≡ 0
-  shared_end h = ap (λ l. shared signer same l w) (drop_all i words h)
+    counted : (b : Bool) (s : ℕ) → s ≡ signer x → says s later ≡ b → same x w ≡ true → cond b (shared signer same later w) (suc (shared signer same later w)) ≡ shared signer same words w
+    counted b s n t e =
+        ap (λ b. cond b (shared signer same later w) (suc (shared signer same later w))) (sym (ap (λ s. has s (sharers signer same w later)) (sym n) ∙ has-sharers s later ∙ t))
+        ∙ ap (λ b. different (cond b (signer x ∷ sharers signer same w later) (sharers signer same w later))) (sym e)
+        ∙ ap (λ l. shared signer same l w) (is_first words some first)
+
+    pub repeated : (s : ℕ) → s ≡ signer x → says s later ≡ true → same x w ≡ true → shared signer same later w ≡ shared signer same words w
+    repeated = counted true
+
+    pub one_more : (s : ℕ) → s ≡ signer x → says s later ≡ false → same x w ≡ true → suc (shared signer same later w) ≡ shared signer same words w
+    one_more = counted false
+
+-- a word that is found for its many signers is among the words
+pub carried : {W : Type 0} (signer : W → ℕ) (same : W → W → Bool) (m : ℕ) (all words : List W) (w : W) (s : ℕ) → s ≡ signer w → Some w ≡ find (λ w. leb m (shared signer same all w)) words → Among (Carried signer same all m s) words
+carried signer same m all [] w s n e = absurd cc
+carried signer same m all (x ∷ xs) w s n e = go (leb m (shared signer same all x)) refl e (carried signer same m all xs w s n)
+  where
+    go : (b : Bool) → leb m (shared signer same all x) ≡ b → Some w ≡ cond b (Some x) (find (λ w. leb m (shared signer same all w)) xs) → (Some w ≡ find (λ w. leb m (shared signer same all w)) xs → Among (Carried signer same all m s) xs) → Among (Carried signer same all m s) (x ∷ xs)
+    go true t e f = inl (ap signer (cc) ∙ sym n, leb-true m (shared signer same all x) t)
+    go false t e f = inr (f e)

@@ -1,8 +1,9 @@
 // Counting words: do enough different signers say the same? One count serves every kind of word.
 #![tactic(auto)]
 
-ghost use Rattle.std.specs.Prelude.{◌≡◌, ℕ, Bool, true};
-ghost use Rattle.tally.specs.Tallies.{has, sharers, shared, Tallied};
+ghost use Rattle.std.specs.Prelude.{◌≡◌, ℕ, Bool, true, ◌&&◌, ◌==◌};
+ghost use Rattle.std.specs.List.{list_any};
+ghost use Rattle.tally.specs.Tallies.{shared, Tallied};
 
 // A word has a signer, and says the same as others. Sameness is an equivalence.
 pub trait Word {
@@ -25,14 +26,11 @@ pub trait Word {
 
 // Does this signer say the same as the word?
 fn says<W: Word>(words: &[W], word: &W, signer: u16) -> bool
-    ensures { result ≡ has signer (sharers W.Word.signer W.Word.same word.now words.now) }
+    ensures { result ≡ list_any (λ other. W.Word.same other word.now && W.Word.signer other == signer) words.now }
 {
-    for other in words {
-        if other.same(word) && other.signer() == signer {
-            return true;
-        }
-    }
-    false
+    words
+        .iter()
+        .any(|other| other.same(word) && other.signer() == signer)
 }
 
 // How many different signers say the same as the word: each counts where it says so last.
@@ -40,10 +38,12 @@ pub fn count<W: Word>(words: &[W], word: &W) -> usize
     ensures { result ≡ shared W.Word.signer W.Word.same words.now word.now }
 {
     let mut signers: usize = 0;
-    for (i, other) in words.iter().enumerate() {
-        if other.same(word) && !says(&words[i + 1..], word, other.signer()) {
+    let mut rest = words;
+    while let [other, later @ ..] = rest {
+        if other.same(word) && !says(later, word, other.signer()) {
             signers += 1;
         }
+        rest = later;
     }
     signers
 }
@@ -55,10 +55,6 @@ pub fn tally<W: Word>(words: &[W], m: usize) -> Option<u16>
     if m == 0 {
         return None;
     }
-    for word in words {
-        if count(words, word) >= m {
-            return Some(word.signer());
-        }
-    }
-    None
+    let word = words.iter().find(|word| count(words, word) >= m)?;
+    Some(word.signer())
 }

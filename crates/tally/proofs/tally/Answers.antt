@@ -1,22 +1,14 @@
--- A word that enough share is named; the words passed over are short.
-use Rattle.std.proofs.Common.{sym, arith}
-use Rattle.tally.specs.Tallies.{Short, Carried}
-use Rattle.tally.proofs.Turns.{among_read, each_more, each_all}
+use Rattle.std.proofs.Common.{sym, ap, ◌∙◌, arith, leb, rules, tests}
+use Rattle.std.specs.Option.{option_map}
+use Rattle.std.proofs.lemmas.Iterator.{YieldsList-from_slice}
+use Rattle.std.proofs.lemmas.Iterator.Search.{find_from_yields_List}
+use Rattle.tally.specs.Tallies.{shared}
+use Rattle.tally.proofs.Turns.{carried}
 use Rattle.tally.proofs.tally.Goals as goal
 
-pub returns-then-m-eq0 : goal.returns-then-m-eq0
-returns-then-m-eq0 g c = λ some. absurd (omega arith)
-
-pub returns-then-count-m : goal.returns-then-count-m
-returns-then-count-m g c = (
-  omega arith,
-  among_read (Carried g.W.Word.signer g.W.Word.same c.args.words.now c.args.m c.signer.result) c.args.words.now c.loop-word.word-index c.word-item.result c.loop-word-test.true c.word-item.is
-      (sym c.signer.ensures, omega (arith, c.count.ensures)),
-)
-
-pub loop-word-preserved : goal.loop-word-preserved
-loop-word-preserved g c =
-    each_more (Short g.W.Word.signer g.W.Word.same c.args.words.now c.args.m) c.args.words.now c.loop-word.word-index c.word-item.result c.loop-word-test.true c.word-item.is c.loop-word.invariant (omega (arith, c.count.ensures))
-
 pub returns : goal.returns
-returns g c = λ _. each_all (Short g.W.Word.signer g.W.Word.same c.args.words.now c.args.m) c.args.words.now c.loop-word.word-index c.loop-word-test.false c.loop-word.invariant
+returns g c =
+    let e = find_from_yields_List (λ w. leb c.args.m (shared g.W.Word.signer g.W.Word.same c.args.words.now w)) _ _ c.find.result c.find.ensures.ran (YieldsList-from_slice c.args.words.now cc) (λ x b q k. search (rules, tests)) in (
+      omega arith,
+      carried g.W.Word.signer g.W.Word.same c.args.m c.args.words.now c.args.words.now c.in_ok-word.word.now c.signer.result c.signer.ensures (ap (option_map (λ x. x.now)) (sym c.in_ok-word.was) ∙ e),
+    )

@@ -1,31 +1,26 @@
--- While the tally names none for m, fewer than m are alike.
-use Rattle.std.proofs.Common.{◌<◌, ◌≤◌, sym, ◌∙◌, arith}
-use Rattle.quorum.specs.Rings.{stations_of}
-use Rattle.informs.specs.Agreed.{blank_told, most_alike}
-use Rattle.informs.proofs.Rows.{of_row, most_if, most_in_ring}
+-- The largest count of the words is the most of a row.
+use Rattle.std.proofs.Common.{◌≡◌, unwrap_or, ap, ◌∙◌, rules, tests, arith}
+use Rattle.std.proofs.lemmas.Iterator.{YieldsList-from_slice, YieldsList-from_map}
+use Rattle.std.proofs.lemmas.Iterator.Consumers.{reduce_from_yields_List}
+use Rattle.std.proofs.lemmas.List.Folds.{max_of_map}
+use Rattle.tally.specs.Tallies.{shared}
+use Rattle.informs.specs.Agreed.{most_alike}
+use Rattle.informs.proofs.Rows.{signed, agrees, most_is, most_in_ring}
 use Rattle.informs.proofs.agreed.most.Goals as goal
 
-pub loop-m-init : goal.loop-m-init
-loop-m-init c =
-    let a = most_in_ring (stations_of c.args.ring) c.args.heard.now c.requires in
-    let e = c.stations-m.ensures in
-    omega arith
+largest : (c : goal.After-unwrap_or) → c.unwrap_or.result ≡ most_alike c.args.heard.now
+largest c =
+    let words = c.as_slice-words.result.now in
+    c.unwrap_or.ensures
+    ∙ ap (λ o. unwrap_or o 0) (reduce_from_yields_List _ c.map-counts.result _ c.max.ensures.ran (YieldsList-from_map _ (shared signed agrees words) (YieldsList-from_slice words cc) c.map-counts.ensures.closure (λ x b q k. search (rules, tests))))
+    ∙ max_of_map (shared signed agrees words) words
+    ∙ most_is 10 c.args.heard.now words c.requires (c.as_slice-words.ensures.value ∙ c.gathered-informs.ensures)
 
-pub loop-m-preserved : goal.loop-m-preserved
-loop-m-preserved c =
-    let t = of_row c.args.heard.now c.as_slice.result.now c.gathered-informs.result blank_told c.from.result c.loop-m.m c.tally.result c.gathered-informs.ensures c.as_slice.ensures.value c.from.ensures c.tally.ensures in
-    let few : most_alike c.args.heard.now < c.loop-m.m = (most_if (stations_of c.args.ring) c.args.heard.now c.requires c.loop-m.m c.tally.result c.loop-m-test.true t).1 (sym c.is_some.ensures ∙ c.if-is_some.false) in
-    omega arith
-
-pub returns-then-is_some : goal.returns-then-is_some
-returns-then-is_some c =
-    let t = of_row c.args.heard.now c.as_slice.result.now c.gathered-informs.result blank_told c.from.result c.loop-m.m c.tally.result c.gathered-informs.ensures c.as_slice.ensures.value c.from.ensures c.tally.ensures in
-    let enough : c.loop-m.m ≤ most_alike c.args.heard.now = (most_if (stations_of c.args.ring) c.args.heard.now c.requires c.loop-m.m c.tally.result c.loop-m-test.true t).0 (sym c.is_some.ensures ∙ c.if-is_some.true) in
-    let most : most_alike c.args.heard.now ≤ c.loop-m.m = c.loop-m.invariant in
+pub overflow_cast-result : goal.overflow_cast-result
+overflow_cast-result c =
+    let e = largest c in
+    let few = most_in_ring 10 c.args.heard.now c.requires in
     omega arith
 
 pub returns : goal.returns
-returns c =
-    let most : most_alike c.args.heard.now ≤ c.loop-m.m = c.loop-m.invariant in
-    let end = c.loop-m-test.false in
-    omega arith
+returns c = largest c
