@@ -1,5 +1,6 @@
 -- What hexadecimal digits spell: two digits a byte, the higher first.
-use Rattle.std.specs.Prelude.{ℕ, zero, suc, ◌+◌, ◌-◌, ◌*◌, ◌/◌, ◌%◌, Bool, cond, ◌&&◌, List, [], ◌∷◌, ◌++◌, length, Some, None, Option, ◌==◌, nat_le, slice_index}
+use Rattle.std.specs.Prelude.{ℕ, zero, suc, ◌+◌, ◌-◌, ◌*◌, ◌/◌, ◌%◌, Bool, cond, ◌&&◌, List, [], ◌∷◌, ◌++◌, length, Some, None, Option, ◌==◌, nat_le, nat_lt, if◌then◌else◌, slice_index}
+use Rattle.std.specs.List.{flat_map}
 
 -- a character from one to another
 abbrev pub within : ℕ → ℕ → ℕ → Bool
@@ -29,3 +30,15 @@ spelled cs (suc k) =
 
 abbrev pub decoded : List ℕ → Option (List ℕ)
 decoded cs = cond (length cs % 2 == 0) (spelled cs (length cs / 2)) None
+
+-- bytes, where there are just n of them
+abbrev pub exactly : ℕ → Option (List ℕ) → Option (List ℕ)
+exactly n o = o and (λ bs. if length bs == n then Some bs else None)
+
+-- the digit of a value below 16, in lower case
+abbrev pub character : ℕ → ℕ
+character d = if nat_lt d 10 then 48 + d else 87 + d
+
+-- two digits for each byte
+abbrev pub spelling : List ℕ → List ℕ
+spelling bytes = flat_map (λ b. character (b / 16) ∷ character (b % 16) ∷ []) bytes

@@ -1,11 +1,13 @@
-// Bytes from their hexadecimal digits, for the programs that people type records into.
+// Bytes from their hexadecimal digits and back, for the programs that people type records into.
 #![tactic(auto)]
 
-ghost use Rattle.std.specs.Prelude.{◌≡◌, ◌+◌, ◌*◌, ◌<◌, length, IfOk, vec_items};
-ghost use Rattle.hex_text.specs.Digits.{digit_of, byte_of, decoded};
+ghost use Rattle.std.specs.Prelude.{◌≡◌, ◌+◌, ◌*◌, ◌<◌, length, IfOk, Some, vec_items};
+ghost use Rattle.hex_text.specs.Digits.{digit_of, byte_of, decoded, exactly, spelling};
 ghost use Rattle.std.specs.Option.{option_map};
+ghost use Rattle.std.specs.Fmt.{WritesOnOk};
 
 use std::alloc::{AllocError, Global};
+use std::fmt;
 
 // The value of a digit, in either case of letters.
 pub fn digit(c: u8) -> Option<u8>
@@ -32,15 +34,54 @@ pub fn byte(high: u8, low: u8) -> Option<u8>
 pub fn decode(heap: Global, text: &[u8]) -> Result<Option<Vec<u8>>, AllocError>
     ensures { IfOk result (λ o. option_map vec_items o ≡ decoded text.now) }
 {
-    let mut bytes = Vec::new(heap);
-    if text.len() % 2 != 0 {
+    let (pairs, []) = text.as_chunks::<2>() else {
         return Ok(None);
-    }
-    for i in 0..text.len() / 2 {
-        match byte(text[2 * i], text[2 * i + 1]) {
-            Some(b) => bytes.push(b)?,
-            None => return Ok(None),
-        }
+    };
+    let mut bytes = Vec::new(heap);
+    for &[high, low] in pairs {
+        let Some(b) = byte(high, low) else {
+            return Ok(None);
+        };
+        bytes.push(b)?;
     }
     Ok(Some(bytes))
+}
+
+// The N bytes that a text of just twice as many digits spells, or none.
+pub fn array<const N: usize>(text: &[u8]) -> Option<[u8; N]>
+    ensures { result ≡ exactly N (decoded text.now) }
+{
+    let (pairs, []) = text.as_chunks::<2>() else {
+        return None;
+    };
+    if pairs.len() != N {
+        return None;
+    }
+    let mut bytes = [0; N];
+    for (i, &[high, low]) in pairs.iter().enumerate() {
+        bytes[i] = byte(high, low)?;
+    }
+    Some(bytes)
+}
+
+// Each byte as two digits, in lower case.
+fn spell<W: fmt::Write>(bytes: &[u8], f: &mut fmt::Formatter<W>) -> fmt::Result
+    ensures { WritesOnOk W.write_str_gives f.old result (spelling bytes.now) f.new }
+{
+    for b in bytes {
+        write!(f, "{b:02x}")?;
+    }
+    Ok(())
+}
+
+// Bytes that print as their digits.
+#[derive(Clone, Copy)]
+pub struct Hex<'a>(pub &'a [u8]);
+
+impl fmt::Display for Hex<'_> {
+    ghost output = { λ hex. Some (spelling hex.0.now) };
+
+    fn fmt<W: fmt::Write>(&self, f: &mut fmt::Formatter<W>) -> fmt::Result {
+        spell(self.0, f)
+    }
 }

@@ -1,14 +1,12 @@
 // The keys that were given, and what they say of a seal.
 use keyed_box::KeyedBox;
 use outbox::statements::cover;
+use quorum::limits::LONGEST_STATEMENT;
 use quorum::refusal::Fault;
-use records::arrivals::Record;
+use records::statement::Said;
+use ring_lines::signer::SignerKey;
 use seal_box::SealBox;
-use siphash::Key;
 use std::fmt;
-
-// enough for what the seal of the longest record covers
-const LONGEST: usize = 6175;
 
 // What is known of a seal.
 #[derive(Clone, Copy)]
@@ -32,37 +30,30 @@ impl fmt::Display for Verdict {
 
 // The keys so far; the first that is given makes the box.
 #[derive(Drop)]
-pub enum Keys {
-    None,
-    Some(KeyedBox),
-}
+pub struct Keys(Option<KeyedBox>);
 
 impl Keys {
-    pub fn add(self, number: u16, key: Key) -> (Keys, Result<(), Fault>) {
-        match self {
-            Keys::None => match KeyedBox::new(number, key) {
-                Ok(keys) => (Keys::Some(keys), Ok(())),
-                Err(fault) => (Keys::None, Err(fault)),
-            },
-            Keys::Some(keys) => {
-                let mut more = keys;
-                let answer = more.add(number, key);
-                (Keys::Some(more), answer)
-            }
-        }
+    pub fn new() -> Keys {
+        Keys(None)
     }
 
-    // What the keys say of a signer's seal over what the own seal of a record covers.
-    pub fn verdict(&self, signer: u16, message: &Record, tag: u64) -> Verdict {
-        match self {
-            Keys::None => Verdict::NotTried,
-            Keys::Some(keys) => {
-                let mut statement = [0; LONGEST];
-                match cover(message, &mut statement) {
-                    Ok(end) if keys.ask(signer, &statement[0..end], tag) => Verdict::Genuine,
-                    _ => Verdict::False,
-                }
-            }
+    pub fn add(&mut self, signer: SignerKey) -> Result<(), Fault> {
+        match &mut self.0 {
+            Some(keys) => keys.add(signer.number, signer.key)?,
+            None => self.0 = Some(KeyedBox::new(signer.number, signer.key)?),
+        }
+        Ok(())
+    }
+
+    // What the keys say of a signer's seal over a statement.
+    pub fn verdict(&self, signer: u16, said: Said<'_>, tag: u64) -> Verdict {
+        let Some(keys) = &self.0 else {
+            return Verdict::NotTried;
+        };
+        let mut statement = [0; LONGEST_STATEMENT];
+        match cover(said, &mut statement) {
+            Ok(end) if keys.ask(signer, &statement[..end], tag) => Verdict::Genuine,
+            _ => Verdict::False,
         }
     }
 }

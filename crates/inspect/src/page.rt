@@ -1,34 +1,27 @@
 // A page on which a record is laid out field by field: each line has the field's name, the place of its first byte and
 // its value, and of a seal whether it is genuine, once keys are given.
-use crate::keys::Verdict;
+use crate::keys::Keys;
+use hex_text::Hex;
+use records::statement::Said;
 use std::io;
 
 #[derive(Drop)]
 pub struct Page<'a> {
     rt: &'a HostRuntime,
+    keys: &'a Keys,
     // the place of the next field
     at: usize,
     // how far the fields of a nested part are indented
-    depth: usize,
+    indent: usize,
 }
 
 impl<'a> Page<'a> {
-    pub fn new(rt: &'a HostRuntime) -> Page<'a> {
+    pub fn new(rt: &'a HostRuntime, keys: &'a Keys) -> Page<'a> {
         Page {
             rt,
+            keys,
             at: 0,
-            depth: 1,
-        }
-    }
-
-    fn pad(&self) -> &'static str {
-        match self.depth {
-            0 => "",
-            1 => "  ",
-            2 => "    ",
-            3 => "      ",
-            4 => "        ",
-            _ => "          ",
+            indent: 2,
         }
     }
 
@@ -39,50 +32,44 @@ impl<'a> Page<'a> {
 
     // The name of a nested part; its fields follow.
     pub fn open(&mut self, name: &str) -> io::Result<()> {
-        let pad = self.pad();
-        let at = self.at;
-        println!(self.rt; "{pad}{name} at {at}:")?;
-        self.depth = self.depth.saturating_add(1);
+        let (at, indent) = (self.at, self.indent);
+        println!(self.rt; "{:indent$}{name} at {at}:", "")?;
+        self.indent = self.indent.saturating_add(2);
         Ok(())
     }
 
     pub fn close(&mut self) {
-        self.depth = self.depth.saturating_sub(1);
+        self.indent = self.indent.saturating_sub(2);
     }
 
     pub fn number(&mut self, name: &str, value: u64, size: usize) -> io::Result<()> {
-        let pad = self.pad();
-        let at = self.at;
-        println!(self.rt; "{pad}{name} at {at}: {value}")?;
+        let (at, indent) = (self.at, self.indent);
+        println!(self.rt; "{:indent$}{name} at {at}: {value}", "")?;
         self.skip(size);
         Ok(())
     }
 
-    pub fn seal(&mut self, value: u64, verdict: Verdict) -> io::Result<()> {
-        let pad = self.pad();
-        let at = self.at;
-        println!(self.rt; "{pad}seal at {at}: {value:016x}{verdict}")?;
+    // A signer's seal, with what the keys say of it.
+    pub fn seal(&mut self, signer: u16, said: Said<'_>, tag: u64) -> io::Result<()> {
+        let (at, indent) = (self.at, self.indent);
+        let verdict = self.keys.verdict(signer, said, tag);
+        println!(self.rt; "{:indent$}seal at {at}: {tag:016x}{verdict}", "")?;
         self.skip(8);
         Ok(())
     }
 
     pub fn bytes(&mut self, name: &str, bytes: &[u8]) -> io::Result<()> {
-        let pad = self.pad();
-        let at = self.at;
-        print!(self.rt; "{pad}{name} at {at}: ")?;
-        for b in bytes {
-            print!(self.rt; "{b:02x}")?;
-        }
-        println!(self.rt; "")?;
+        let (at, indent) = (self.at, self.indent);
+        let hex = Hex(bytes);
+        println!(self.rt; "{:indent$}{name} at {at}: {hex}", "")?;
         self.skip(bytes.len());
         Ok(())
     }
 
     // The mask of a certificate, as the stations that it shows.
     pub fn mask(&mut self, seals: &[Option<u64>]) -> io::Result<()> {
-        let pad = self.pad();
-        let at = self.at;
-        print!(self.rt; "{pad}mask at {at}: stations")?;
+        let (at, indent) = (self.at, self.indent);
+        print!(self.rt; "{:indent$}mask at {at}: stations", "")?;
         for (station, seal) in seals.iter().enumerate() {
             if seal.is_some() {
                 print!(self.rt; " {station}")?;

@@ -1,9 +1,9 @@
 // The records laid out on a page.
-use crate::keys::Keys;
 use crate::page::Page;
-use records::arrivals::{Arrival, CheckCommit, Inform, NewView, Prepare, Record, ViewState};
+use records::arrivals::{Arrival, Inform, NewView, Record, ViewState};
 use records::certificate::Certificate;
 use records::request::{Proposal, Request};
+use records::statement::{Said, Support};
 use std::io;
 
 // The mark and the name of a record's kind.
@@ -20,157 +20,121 @@ pub fn title(message: &Record) -> &'static str {
     }
 }
 
-// What the seals of a certificate support: that a proposal is prepared, or that it is committed.
-#[derive(Clone, Copy)]
-enum Support {
-    Prepared,
-    Committed,
-}
-
-fn request(page: &mut Page, keys: &Keys, r: &Request) -> io::Result<()> {
-    page.number("client", u64::from(r.client), 2)?;
-    page.number("sequence", u64::from(r.sequence), 4)?;
-    page.bytes("payload", &r.payload.bytes)?;
-    page.seal(r.seal, keys.verdict(r.client, &Record::Request(*r), r.seal))
-}
-
-fn proposal(page: &mut Page, keys: &Keys, p: &Proposal) -> io::Result<()> {
-    page.open("proposal")?;
-    page.number("view", u64::from(p.view), 4)?;
-    page.number("round", u64::from(p.round), 4)?;
-    page.open("request")?;
-    request(page, keys, &p.request)?;
-    page.close();
-    page.close();
-    Ok(())
-}
-
-// The own seal of a record between stations.
-fn own(page: &mut Page, keys: &Keys, sender: u8, a: Arrival) -> io::Result<()> {
-    let tag = a.seal();
-    page.seal(
-        tag,
-        keys.verdict(u16::from(sender), &Record::Arrival(a), tag),
-    )
-}
-
-// The statement that a station's seal in a certificate covers.
-fn supported(support: Support, sender: u8, c: &Certificate, seal: u64) -> Record {
-    match support {
-        Support::Prepared => Record::Arrival(Arrival::Prepare(Prepare {
-            sender,
-            proposal: c.proposal,
-            seal,
-        })),
-        Support::Committed => Record::Arrival(Arrival::CheckCommit(CheckCommit {
-            sender,
-            prepared: *c,
-            seal,
-        })),
+impl Page<'_> {
+    fn request(&mut self, request: &Request) -> io::Result<()> {
+        self.number("client", u64::from(request.client), 2)?;
+        self.number("sequence", u64::from(request.sequence), 4)?;
+        self.bytes("payload", &request.payload.bytes)?;
+        self.seal(request.client, Said::Asks(request), request.seal)
     }
-}
 
-fn certificate(page: &mut Page, keys: &Keys, support: Support, c: &Certificate) -> io::Result<()> {
-    let name = match support {
-        Support::Prepared => "prepared certificate",
-        Support::Committed => "commit certificate",
-    };
-    page.open(name)?;
-    proposal(page, keys, &c.proposal)?;
-    page.mask(&c.seals)?;
-    let mut station: u8 = 0;
-    for seal in &c.seals {
-        if let Some(tag) = seal {
-            let message = supported(support, station, c, *tag);
-            page.seal(*tag, keys.verdict(u16::from(station), &message, *tag))?;
+    fn proposal(&mut self, proposal: &Proposal) -> io::Result<()> {
+        self.open("proposal")?;
+        self.number("view", u64::from(proposal.view), 4)?;
+        self.number("round", u64::from(proposal.round), 4)?;
+        self.open("request")?;
+        self.request(&proposal.request)?;
+        self.close();
+        self.close();
+        Ok(())
+    }
+
+    fn certificate(&mut self, support: Support, certificate: &Certificate) -> io::Result<()> {
+        self.open(match support {
+            Support::Prepared => "prepared certificate",
+            Support::Committed => "commit certificate",
+        })?;
+        self.proposal(&certificate.proposal)?;
+        self.mask(&certificate.seals)?;
+        for (station, seal) in (0u8..).zip(&certificate.seals) {
+            if let Some(tag) = seal {
+                let said = support.said(station, &certificate.proposal);
+                self.seal(u16::from(station), said, *tag)?;
+            }
         }
-        station = station.saturating_add(1);
+        self.close();
+        Ok(())
     }
-    page.close();
-    Ok(())
-}
 
-fn view_state(page: &mut Page, keys: &Keys, s: &ViewState) -> io::Result<()> {
-    page.skip(2);
-    page.number("sender", u64::from(s.sender), 1)?;
-    page.number("view", u64::from(s.view), 4)?;
-    match &s.commit {
-        None => page.number("commits", 0, 1)?,
-        Some(c) => {
-            page.number("commits", 1, 1)?;
-            certificate(page, keys, Support::Committed, c)?;
+    // Certificates behind their count.
+    fn certificates(
+        &mut self,
+        name: &str,
+        support: Support,
+        certificates: &[Certificate],
+    ) -> io::Result<()> {
+        self.number(name, certificates.len() as u64, 1)?;
+        for certificate in certificates {
+            self.certificate(support, certificate)?;
         }
+        Ok(())
     }
-    let prepared = s.prepared.as_slice();
-    page.number("prepared", prepared.len() as u64, 1)?;
-    for c in prepared {
-        certificate(page, keys, Support::Prepared, c)?;
+
+    fn sender(&mut self, sender: u8) -> io::Result<()> {
+        self.skip(2);
+        self.number("sender", u64::from(sender), 1)
     }
-    own(page, keys, s.sender, Arrival::ViewState(*s))
-}
 
-fn new_view(page: &mut Page, keys: &Keys, v: &NewView) -> io::Result<()> {
-    page.skip(2);
-    page.number("sender", u64::from(v.sender), 1)?;
-    page.number("view", u64::from(v.view), 4)?;
-    let states = v.states.as_slice();
-    page.number("view states", states.len() as u64, 1)?;
-    for s in states {
-        page.open("VS ViewState")?;
-        view_state(page, keys, s)?;
-        page.close();
+    fn view(&mut self, view: u32) -> io::Result<()> {
+        self.number("view", u64::from(view), 4)
     }
-    own(page, keys, v.sender, Arrival::NewView(*v))
-}
 
-// A sender with its proposal, as a Propose and a Prepare have them.
-fn claim(page: &mut Page, keys: &Keys, sender: u8, p: &Proposal, a: Arrival) -> io::Result<()> {
-    page.skip(2);
-    page.number("sender", u64::from(sender), 1)?;
-    proposal(page, keys, p)?;
-    own(page, keys, sender, a)
-}
+    fn view_state(&mut self, state: &ViewState) -> io::Result<()> {
+        self.sender(state.sender)?;
+        self.view(state.view)?;
+        self.certificates("commits", Support::Committed, state.commit.as_slice())?;
+        self.certificates("prepared", Support::Prepared, &state.prepared)?;
+        self.seal(u16::from(state.sender), Said::Leaves(state), state.seal)
+    }
 
-fn inform(page: &mut Page, keys: &Keys, i: &Inform) -> io::Result<()> {
-    page.skip(2);
-    page.number("sender", u64::from(i.sender), 1)?;
-    proposal(page, keys, &i.proposal)?;
-    page.number("result", i.result, 8)?;
-    page.seal(
-        i.seal,
-        keys.verdict(u16::from(i.sender), &Record::Inform(*i), i.seal),
-    )
-}
-
-fn arrival(page: &mut Page, keys: &Keys, a: &Arrival) -> io::Result<()> {
-    match a {
-        Arrival::Propose(p) => claim(page, keys, p.sender, &p.proposal, *a),
-        Arrival::Prepare(p) => claim(page, keys, p.sender, &p.proposal, *a),
-        Arrival::CheckCommit(c) => {
-            page.skip(2);
-            page.number("sender", u64::from(c.sender), 1)?;
-            certificate(page, keys, Support::Prepared, &c.prepared)?;
-            own(page, keys, c.sender, *a)
+    fn new_view(&mut self, view: &NewView) -> io::Result<()> {
+        self.sender(view.sender)?;
+        self.view(view.view)?;
+        self.number("view states", view.states.len() as u64, 1)?;
+        for state in view.states.as_slice() {
+            self.open("VS ViewState")?;
+            self.view_state(state)?;
+            self.close();
         }
-        Arrival::Failure(f) => {
-            page.skip(2);
-            page.number("sender", u64::from(f.sender), 1)?;
-            page.number("view", u64::from(f.view), 4)?;
-            own(page, keys, f.sender, *a)
-        }
-        Arrival::ViewState(s) => view_state(page, keys, s),
-        Arrival::NewView(v) => new_view(page, keys, v),
+        self.seal(u16::from(view.sender), Said::Begins(view), view.seal)
     }
-}
 
-// All fields of a record, with their places, and what the keys say of its seals.
-pub fn fields(page: &mut Page, keys: &Keys, message: &Record) -> io::Result<()> {
-    match message {
-        Record::Request(r) => {
-            page.skip(2);
-            request(page, keys, r)
+    fn inform(&mut self, inform: &Inform) -> io::Result<()> {
+        self.sender(inform.sender)?;
+        self.proposal(&inform.proposal)?;
+        self.number("result", inform.result, 8)?;
+        self.seal(u16::from(inform.sender), Said::Informs(inform), inform.seal)
+    }
+
+    fn arrival(&mut self, arrival: &Arrival) -> io::Result<()> {
+        match arrival {
+            Arrival::Propose(claim) | Arrival::Prepare(claim) => {
+                self.sender(claim.sender)?;
+                self.proposal(&claim.proposal)?;
+            }
+            Arrival::CheckCommit(check) => {
+                self.sender(check.sender)?;
+                self.certificate(Support::Prepared, &check.prepared)?;
+            }
+            Arrival::Failure(failure) => {
+                self.sender(failure.sender)?;
+                self.view(failure.view)?;
+            }
+            Arrival::ViewState(state) => return self.view_state(state),
+            Arrival::NewView(view) => return self.new_view(view),
         }
-        Record::Inform(i) => inform(page, keys, i),
-        Record::Arrival(a) => arrival(page, keys, a),
+        self.seal(u16::from(arrival.sender()), arrival.said(), arrival.seal())
+    }
+
+    // All fields of a record, with their places, and what the keys say of its seals.
+    pub fn record(&mut self, message: &Record) -> io::Result<()> {
+        match message {
+            Record::Request(request) => {
+                self.skip(2);
+                self.request(request)
+            }
+            Record::Inform(inform) => self.inform(inform),
+            Record::Arrival(arrival) => self.arrival(arrival),
+        }
     }
 }

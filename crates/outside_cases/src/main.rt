@@ -8,7 +8,7 @@
 // HEX is `-` for no bytes.
 #![tactic(auto)]
 
-use anyhow::anyhow;
+use anyhow::{Context, anyhow};
 use hex_text::decode;
 use keyed_box::KeyedBox;
 use quorum::figures::Ring;
@@ -20,13 +20,6 @@ use std::alloc::Global;
 use std::fs;
 
 const CLIENTS: [u16; 3] = [1000, 1001, 1002];
-
-// Which file a case is from.
-#[derive(Clone, Copy)]
-enum Origin {
-    Framing,
-    Arrival,
-}
 
 fn bytes_of(heap: Global, text: &str) -> anyhow::Result<Vec<u8>> {
     if text == "-" {
@@ -63,82 +56,62 @@ fn admitted(stations: u16, own: u16, bytes: &[u8]) -> Result<(), Fault> {
     Ok(())
 }
 
-// What the framing reader says of a case, in the words of the file.
-fn framed(heap: Global, stations: &str, text: &str) -> anyhow::Result<String> {
-    let stations = stations.parse::<usize>()?;
+// The next part of a case, and what stands behind it.
+fn parted(text: &str) -> anyhow::Result<(&str, &str)> {
+    text.split_once(' ').context("a case with too few parts")
+}
+
+// Does the framing reader say of a case what stands at its end?
+fn framing_agrees(heap: Global, case: &str) -> anyhow::Result<bool> {
+    let (stations, rest) = parted(case)?;
+    let (text, expected) = parted(rest)?;
     let bytes = bytes_of(heap, text)?;
-    let said = match frame(stations, bytes.as_slice()) {
+    let said = match frame(stations.parse()?, &bytes) {
         Ok(record) => {
             let length = record.len();
             format!(in heap; "ok {length}")?
         }
         Err(fault) => format!(in heap; "refused {fault}")?,
     };
-    Ok(said)
+    Ok(said.as_str() == expected)
 }
 
-// What a station says of what arrives.
-fn arrived(heap: Global, stations: &str, own: &str, text: &str) -> anyhow::Result<String> {
-    let stations = stations.parse::<u16>()?;
-    let own = own.parse::<u16>()?;
+// Does a station say of what arrives what stands at the end of the case?
+fn arrival_agrees(heap: Global, case: &str) -> anyhow::Result<bool> {
+    let (stations, rest) = parted(case)?;
+    let (own, rest) = parted(rest)?;
+    let (text, expected) = parted(rest)?;
     let bytes = bytes_of(heap, text)?;
-    let said = match admitted(stations, own, bytes.as_slice()) {
+    let said = match admitted(stations.parse()?, own.parse()?, &bytes) {
         Ok(()) => String::from_str(heap, "passes")?,
         Err(fault) => format!(in heap; "refused {fault}")?,
     };
-    Ok(said)
+    Ok(said.as_str() == expected)
 }
 
-fn agrees(heap: Global, origin: Origin, line: &str) -> anyhow::Result<bool> {
-    match origin {
-        Origin::Framing => {
-            let mut parts = line.splitn(3, ' ');
-            let (Some(stations), Some(text), Some(expected)) = (
-                parts.next(),
-                parts.next(),
-                parts.next(),
-            ) else {
-                return Err(anyhow!("a case without three parts"));
-            };
-            let said = framed(heap, stations, text)?;
-            Ok(said.as_str() == expected)
-        }
-        Origin::Arrival => {
-            let mut parts = line.splitn(4, ' ');
-            let (Some(stations), Some(own), Some(text)) = (parts.next(), parts.next(), parts.next())
-            else {
-                return Err(anyhow!("a case without four parts"));
-            };
-            let Some(expected) = parts.next() else {
-                return Err(anyhow!("a case without an answer"));
-            };
-            let said = arrived(heap, stations, own, text)?;
-            Ok(said.as_str() == expected)
-        }
-    }
-}
-
-fn run(rt: &HostRuntime, origin: Origin, file: &str) -> anyhow::Result<()> {
+fn run<F: Fn(Global, &str) -> anyhow::Result<bool>>(
+    rt: &HostRuntime,
+    file: &str,
+    agrees: F,
+) -> anyhow::Result<()>
+    requires { F.IsAlwaysCallable agrees }
+{
     let text = fs::read_to_string(rt, file)?;
     let mut right: u32 = 0;
     let mut wrong: u32 = 0;
-    for line in text.lines() {
-        if agrees(rt.alloc(), origin, line)? {
+    for case in text.lines() {
+        if agrees(rt.alloc(), case)? {
             right = right.saturating_add(1);
         } else {
             wrong = wrong.saturating_add(1);
-            println!(rt; "wrong: {line}")?;
+            println!(rt; "wrong: {case}")?;
         }
     }
     println!(rt; "{file}: {right} cases right, {wrong} wrong")?;
     Ok(())
 }
 
-fn both(rt: &HostRuntime) -> anyhow::Result<()> {
-    run(rt, Origin::Framing, "reader_cases.txt")?;
-    run(rt, Origin::Arrival, "arrival_cases.txt")
-}
-
 fn main(rt: HostRuntime) -> anyhow::Result<()> {
-    both(&rt)
+    run(&rt, "reader_cases.txt", framing_agrees)?;
+    run(&rt, "arrival_cases.txt", arrival_agrees)
 }

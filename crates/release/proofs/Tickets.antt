@@ -5,7 +5,7 @@ use Rattle.records.specs.declared.arrivals.Inform.{Inform}
 use Rattle.counter.specs.Hearing.{kept, noted}
 use Rattle.counter.specs.Closing.{served}
 use Rattle.counter.specs.declared.parts.Asked.{Asked}
-use Rattle.counter.specs.declared.parts.Core.{Core}
+use Rattle.counter.specs.Standing.{Core}
 use Rattle.counter.specs.declared.parts.Ticket.{Ticket}
 
 abbrev pub Fits : Core → Ticket → Type 0

@@ -6,7 +6,7 @@ use counter::parts::Ticket;
 use counter::state::Counter;
 use informs::agreed::Release;
 use keyed_box::KeyedBox;
-use outbox::tray::Fill;
+use outbox::tray::Tray;
 use payload::Payload;
 use quorum::refusal::Fault;
 
@@ -14,7 +14,7 @@ use quorum::refusal::Fault;
 pub struct Pending {
     counter: Counter,
     ticket: Ticket,
-    ghost fits: { is_some (served counter.core.current ticket) ≡ true },
+    ghost fits: { is_some (served counter.current ticket) ≡ true },
 }
 
 impl Drop for Pending {
@@ -32,11 +32,10 @@ impl Pending {
         counter: Counter,
         seals: &KeyedBox,
         payload: Payload,
-        memory: &mut [u8],
-        fill: &mut Fill,
+        tray: &mut Tray<'_>,
     ) -> Result<Pending, (Fault, Counter)> {
         let mut asking = counter;
-        match asking.open(seals, payload, memory, fill) {
+        match asking.open(seals, payload, tray) {
             Ok(ticket) => Ok(Pending {
                 counter: asking,
                 ticket,
@@ -45,13 +44,8 @@ impl Pending {
         }
     }
 
-    pub fn hear(self, seals: &KeyedBox, bytes: &[u8]) -> (Pending, Result<(), Fault>) {
-        let Pending {
-            mut counter,
-            ticket,
-        } = self;
-        let answer = counter.hear(seals, bytes);
-        (Pending { counter, ticket }, answer)
+    pub fn hear(&mut self, seals: &KeyedBox, bytes: &[u8]) -> Result<(), Fault> {
+        self.counter.hear(seals, bytes)
     }
 
     pub fn close(self) -> Result<(Counter, Release), (Fault, Pending)> {

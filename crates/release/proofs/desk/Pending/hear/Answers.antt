@@ -1,5 +1,5 @@
 use Rattle.release.proofs.Tickets.{heard_fits}
 use Rattle.release.proofs.desk.Pending.hear.Goals as goal
 
-pub invariant_of-result : goal.invariant_of-result
-invariant_of-result c = record { fits = heard_fits c.args.self.counter.core _ c.args.self.ticket c.hear-answer.result c.hear-answer.new.self.core c.hear-answer.ensures.answer c.args.self.fits }
+pub invariant_of-self : goal.invariant_of-self
+invariant_of-self c = record { fits = heard_fits c.args.self.now.counter _ c.args.self.now.ticket c.hear.result c.hear.new.self c.hear.ensures.answer c.args.self.now.fits }
