@@ -1,6 +1,5 @@
 -- What the calls of a counter rest on. Assumes nothing.
 use Rattle.std.proofs.Common.{◌≡◌, ℕ, ◌+◌, ◌<◌, ◌≤◌, Bool, true, false, cond, ltb, leb, List, ◌++◌, length, take, set, Some, None, Ok, Err, Option, Result, sym, refl, ap, ◌∙◌, subst, arith, length-append}
-use Rattle.std.proofs.lemmas.List.{take_at}
 use Rattle.std.proofs.lemmas.Bool.{cond-true, le-leb}
 use Rattle.std.proofs.lemmas.Bool.Decides.{nat_tests}
 use Rattle.quorum.specs.declared.refusal.Fault.{Fault}
@@ -21,9 +20,10 @@ use Rattle.informs.specs.declared.agreed.Release.{Release}
 use Rattle.informs.specs.Sameness.{request_decides}
 use Rattle.informs.proofs.Executions.{proof_of, placed_more, placed_set, sound_set}
 use Rattle.outbox.specs.Trays.{Sent}
+use Rattle.seals.specs.Tried.{first_false, seals_of_inform}
 use Rattle.counter.specs.Opening.{Posted}
 use Rattle.counter.specs.Standing.{Core, placed_in}
-use Rattle.counter.specs.Hearing.{about, judged, taken, SoundIn}
+use Rattle.counter.specs.Hearing.{about, wanted, taken, SoundIn}
 use Rattle.counter.specs.Closing.{served, Released}
 use Rattle.counter.specs.declared.parts.Asked.{Asked}
 use Rattle.counter.specs.declared.parts.Ticket.{Ticket}
@@ -32,10 +32,6 @@ use Rattle.counter.specs.declared.parts.Ticket.{Ticket}
 request_split : (r : Request) → record_bytes (rec.Request r) ≡ covered (rec.Request r) ++ put 8 r.seal
 unfolding rest_bytes
 request_split r = split_own (rec.Request r)
-
-inform_split : (i : Inform) → record_bytes (rec.Inform i) ≡ covered (rec.Inform i) ++ put 8 i.seal
-unfolding rest_bytes
-inform_split i = split_own (rec.Inform i)
 
 pub request_long : (r : Request) → length r.payload.bytes ≡ 16 → length (record_bytes (rec.Request r)) ≡ 32
 unfolding record_bytes request_bytes asked_bytes mark_bytes
@@ -49,43 +45,24 @@ covered_long r e =
     let p = put_length 8 r.seal in
     omega arith
 
--- the bytes of an inform: its seal stands last
-module _ (i : Inform) (bs : List ℕ) (e : record_bytes (rec.Inform i) ≡ bs) where
-  parted : bs ≡ covered (rec.Inform i) ++ put 8 i.seal
-  parted = sym e ∙ inform_split i
-
-  pub seal_last : length (covered (rec.Inform i)) + 8 ≡ length bs
-  seal_last =
-      let l = ap length parted in
-      let a = length-append (covered (rec.Inform i)) (put 8 i.seal) in
-      let p = put_length 8 i.seal in
-      omega arith
-
-  pub covered_first : (k : ℕ) → k + 8 ≡ length bs → take k bs ≡ covered (rec.Inform i)
-  covered_first k h =
-      let l = seal_last in
-      let m : length (covered (rec.Inform i)) ≡ k = omega arith in
-      ap (take k) parted ∙ take_at (covered (rec.Inform i)) (put 8 i.seal) k m
-
 -- what an inform that was taken in has passed
 pub record Passed (genuine : Seals) (n : ℕ) (current : Option Asked) (i : Inform) : Type 0 where
   pub low : i.sender < n
   pub sealed : Genuine genuine i
   pub apt : about current i ≡ true
 
-picked : (x y z : Bool) (j i : Inform) → cond x (cond y (cond z (Ok j) (Err (NotNow 3))) (Err (NotGenuine 49))) (Err (WrongSender 2)) ≡ Ok i → (j ≡ i) × ((x ≡ true) × ((y ≡ true) × (z ≡ true)))
-picked true true true j i e = (grind arith, (refl, (refl, refl)))
-picked true true false j i e = absurd (grind arith)
+picked : (x y : Bool) (z : Inform → Bool) (j i : Inform) → (cond x (cond {0} y (Ok (tt {0})) (Err (NotGenuine 49)) then (λ u. Ok j)) (Err (WrongSender 2)) then (λ k. cond (z k) (Ok k) (Err (NotNow 3)))) ≡ Ok i → (j ≡ i) × ((x ≡ true) × ((y ≡ true) × (z j ≡ true)))
+picked true true z j i e = (grind (arith, nat_tests), (refl, (refl, grind (arith, nat_tests))))
 picked true false z j i e = absurd (grind arith)
 picked false y z j i e = absurd (grind arith)
 
 passed : (genuine : Seals) (n : ℕ) (current : Option Asked) (bs : List ℕ) (i : Inform) → Ok i ≡ taken genuine n current bs → Passed genuine n current i
 passed genuine n current bs i e = go (inform_of bs) (sym e)
   where
-    go : (r : Result Inform Fault) → (r then (λ j. judged genuine n current j)) ≡ Ok i → Passed genuine n current i
+    go : (r : Result Inform Fault) → ((r then (λ j. cond (ltb j.sender n) (first_false genuine (seals_of_inform j) then (λ _. Ok j)) (Err (WrongSender 2)))) then (λ j. wanted current j)) ≡ Ok i → Passed genuine n current i
     go (Err f) q = absurd (grind arith)
     go (Ok j) q =
-        let p = picked (ltb j.sender n) (genuine j.sender (covered (rec.Inform j)) j.seal) (about current j) j i q in
+        let p = picked (ltb j.sender n) (genuine j.sender (covered (rec.Inform j)) j.seal) (about current) j i q in
         let here : Passed genuine n current j = record { low = let l = p.1.0 in grind (arith, nat_tests); sealed = p.1.1.0; apt = p.1.1.1 } in
         subst (λ k. Passed genuine n current k) p.0 here
 

@@ -1,5 +1,5 @@
 // The calls on a counter.
-ghost use Rattle.std.specs.Prelude.{◌≡◌, ℕ, ◌+◌, true, length, IfOk, nat_le};
+ghost use Rattle.std.specs.Prelude.{◌≡◌, ◌+◌, true, length, IfOk, nat_le};
 ghost use Rattle.std.specs.Option.{option_copied};
 ghost use Rattle.informs.specs.ProofsOfExecution.{Seals};
 ghost use Rattle.counter.specs.Making.{made_of};
@@ -8,7 +8,7 @@ ghost use Rattle.counter.specs.Hearing.{taken, hearing, SoundIn};
 ghost use Rattle.counter.specs.Closing.{served, closing, writing_off, most_in, Released};
 
 use crate::parts::{Asked, Ticket};
-use crate::sealing::{COVERED_SIZE, is_genuine, sealed};
+use crate::sealing::{COVERED_SIZE, sealed};
 use crate::state::Counter;
 use informs::agreed::{Release, agreed, most};
 use outbox::sending::write;
@@ -17,21 +17,17 @@ use payload::Payload;
 use quorum::figures::Ring;
 use quorum::limits::FIRST_CLIENT;
 use quorum::refusal::Fault;
-use reader::reading::read_inform;
 use records::arrivals::{Inform, Record};
-use records::places::{PROPOSAL_SIZE, SEAL_SIZE};
+use records::places::SEAL_SIZE;
 use records::request::Request;
 use seal_box::SealBox;
+use seals::admitting::admit_inform;
 
 // the bytes of a request
 const REQUEST_SIZE: usize = COVERED_SIZE + SEAL_SIZE;
 
-// the places of an inform's sender and view, and of its seal behind the proposal and the result
-const SENDER_PLACE: usize = 2;
-
+// where an inform holds its proposal, the view first
 const VIEW_PLACE: usize = 3;
-
-const SEAL_PLACE: usize = VIEW_PLACE + PROPOSAL_SIZE + 8;
 
 impl Counter {
     // A counter for a ring of so many stations and its box's client.
@@ -104,13 +100,7 @@ impl Counter {
     fn accepted<B: SealBox>(&self, seals: &B, bytes: &[u8]) -> Result<Inform, Fault>
         ensures { result ≡ taken (B.genuine seals.now) self.now.stations self.now.current bytes.now }
     {
-        let inform = read_inform(bytes)?;
-        if inform.sender >= self.ring.stations() {
-            return Err(Fault::WrongSender(SENDER_PLACE));
-        }
-        if !is_genuine(seals, &inform, bytes) {
-            return Err(Fault::NotGenuine(SEAL_PLACE));
-        }
+        let inform = admit_inform(seals, self.ring, bytes)?;
         match &self.current {
             Some(asked) if asked.request == inform.proposal.request => Ok(inform),
             _ => Err(Fault::NotNow(VIEW_PLACE)),

@@ -1,14 +1,9 @@
-// The seals of a client's side: its request's, and those of the informs that it hears.
+// The seal of a client's request.
 ghost use Rattle.std.specs.Prelude.{◌≡◌, Ok};
-ghost use Rattle.records.specs.Statements.{covered};
-ghost use Rattle.records.specs.Writing.{record_bytes};
-ghost use Rattle.records.specs.declared.arrivals.Record.TheVariants as rec;
 ghost use Rattle.counter.specs.Opening.{sealed_by};
 
 use outbox::statements::cover;
 use quorum::refusal::Fault;
-use records::arrivals::Inform;
-use records::places::SEAL_SIZE;
 use records::request::Request;
 use records::statement::Said;
 use seal_box::SealBox;
@@ -24,13 +19,4 @@ pub(crate) fn sealed<B: SealBox>(seals: &B, request: Request) -> Result<Request,
     let end = cover(Said::Asks(&request), &mut paper)?;
     let seal = seals.seal(&paper[..end]);
     Ok(Request { seal, ..request })
-}
-
-// Is the inform that the bytes hold its sender's? Its seal stands last in them.
-pub(crate) fn is_genuine<B: SealBox>(seals: &B, inform: &Inform, bytes: &[u8]) -> bool
-    requires { record_bytes (rec.Inform inform.now) ≡ bytes.now }
-    ensures { result ≡ B.genuine seals.now inform.now.sender (covered (rec.Inform inform.now)) inform.now.seal }
-{
-    let end = bytes.len() - SEAL_SIZE;
-    seals.ask(u16::from(inform.sender), &bytes[..end], inform.seal)
 }
