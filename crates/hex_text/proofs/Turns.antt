@@ -1,7 +1,7 @@
 -- One turn of each loop. Assumes nothing.
 use Rattle.std.proofs.Common.{◌≡◌, ℕ, zero, suc, ◌+◌, ◌-◌, ◌*◌, ◌/◌, ◌%◌, ◌<◌, eqb, List, [], ◌∷◌, ◌++◌, length, get_or, drop, take, Bool, true, cond, ◌^◌, false, Some, None, Option, refl, sym, ap, ◌∙◌, subst, add-zero, add-suc, add-one, arith}
 use Rattle.std.proofs.lemmas.Bool.{cond-true, cond-false, eq-eqb, ne_eqb}
-use Rattle.std.proofs.lemmas.List.{length_push, get_or-take, get_or-drop, take_more, flat_map_more}
+use Rattle.std.proofs.lemmas.List.{length_push, get_or-take, get_or-drop, take_more, drop_more, flat_map_more}
 use Rattle.std.proofs.lemmas.Fmt.{hex_byte}
 use Rattle.std.specs.Fmt.{padded_integral, format_spec, digits}
 use Rattle.std.specs.Simd.{first_chunks}
@@ -38,6 +38,18 @@ pair_spells cs pairs i o p l e =
     let low = ap (λ ps. get_or (get_or ps i []) 1 0) p ∙ digit_in cs (length cs / 2) i 1 (2 * i + 1) l (omega arith) refl in
     sym (e ∙ ap (λ h. byte_of h (get_or (get_or pairs i []) 1 0)) high ∙ ap (λ l. byte_of (get_or cs (2 * i) 0) l) low)
 
+-- the pair that comes next, and those that are left behind it
+pub next_pair : (ps left after : List (List ℕ)) (i : ℕ) (p : List ℕ) → i < length ps → left ≡ drop i ps → left ≡ p ∷ after → (p ≡ get_or ps i []) × (after ≡ drop (i + 1) ps)
+next_pair ps left after i p h l e =
+    let m = drop_more ps i [] h in
+    let s : p ∷ after ≡ get_or ps i [] ∷ drop (i + 1) ps = sym e ∙ l ∙ m in
+    (grind arith, grind arith)
+
+pub next_spells : (cs : List ℕ) (ps left : List (List ℕ)) (i : ℕ) (after : List (List ℕ)) (p : List ℕ) (o : Option ℕ) → ps ≡ first_chunks 2 (length cs / 2) cs → i < length ps → i < length cs / 2 → left ≡ drop i ps → left ≡ p ∷ after → o ≡ byte_of (get_or p 0 0) (get_or p 1 0) → byte_of (get_or cs (2 * i) 0) (get_or cs (2 * i + 1) 0) ≡ o
+next_spells cs ps left i after p o c h k l e b =
+    let n = next_pair ps left after i p h l e in
+    pair_spells cs ps i o c k (subst (λ q. o ≡ byte_of (get_or q 0 0) (get_or q 1 0)) n.0 b)
+
 -- k pairs spell k bytes
 length-spelled : (cs : List ℕ) (k : ℕ) (bs : List ℕ) → spelled cs k ≡ Some bs → length bs ≡ k
 length-spelled cs zero bs e = let n : bs ≡ [] = cc in rw n
@@ -58,11 +70,6 @@ exactly_other cs n other = go (eqb (length cs % 2) 0) (spelled cs (length cs / 2
     go false o l = refl
     go true None l = refl
     go true (Some bs) l = let e = l bs refl in sym (cond-false (eqb (length bs) n) (Some bs) None (ne_eqb (length bs) n (λ same. other (omega arith))))
-
-pub exactly_all : (cs : List ℕ) (n : ℕ) (bs : List ℕ) → length cs % 2 ≡ 0 → length cs / 2 ≡ n → spelled cs n ≡ Some bs → length bs ≡ n → Some bs ≡ exactly n (decoded cs)
-exactly_all cs n bs even half e l =
-    sym (rw (cond-true (eqb (length cs % 2) 0) (spelled cs (length cs / 2)) None (eq-eqb (length cs % 2) 0 even), half, e)
-    (cond-true (eqb (length bs) n) (Some bs) None (eq-eqb (length bs) n l)))
 
 -- what `{:02x}` writes of a byte
 abbrev pub two_digits : ℕ → List ℕ

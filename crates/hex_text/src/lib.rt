@@ -1,7 +1,7 @@
 // Bytes from their hexadecimal digits and back, for the programs that people type records into.
 #![tactic(auto)]
 
-ghost use Rattle.std.specs.Prelude.{◌≡◌, ◌+◌, ◌*◌, ◌<◌, length, IfOk, Some, vec_items};
+ghost use Rattle.std.specs.Prelude.{◌≡◌, IfOk, Some, vec_items};
 ghost use Rattle.hex_text.specs.Digits.{digit_of, byte_of, decoded, exactly, spelling};
 ghost use Rattle.std.specs.Option.{option_map};
 ghost use Rattle.std.specs.Fmt.{WritesOnOk};
@@ -57,9 +57,11 @@ pub fn array<const N: usize>(text: &[u8]) -> Option<[u8; N]>
     if pairs.len() != N {
         return None;
     }
+    let mut pairs = pairs.iter();
     let mut bytes = [0; N];
-    for (i, &[high, low]) in pairs.iter().enumerate() {
-        bytes[i] = byte(high, low)?;
+    for slot in bytes.iter_mut() {
+        let &[high, low] = pairs.next()?;
+        *slot = byte(high, low)?;
     }
     Some(bytes)
 }
