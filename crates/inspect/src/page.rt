@@ -1,9 +1,9 @@
 // A page on which a record is laid out field by field: each line has the field's name, the place of its first byte and
 // its value, and of a seal whether it is genuine, once keys are given.
 use crate::keys::Keys;
-use hex_text::Hex;
+use records::places::SEAL_SIZE;
 use records::statement::Said;
-use std::io;
+use std::{fmt, io};
 
 #[derive(Drop)]
 pub struct Page<'a> {
@@ -42,7 +42,13 @@ impl<'a> Page<'a> {
         self.indent = self.indent.saturating_sub(2);
     }
 
-    pub fn number(&mut self, name: &str, value: u64, size: usize) -> io::Result<()> {
+    // A field of a size in bytes, by what is shown of it.
+    pub fn field(
+        &mut self,
+        name: &str,
+        value: impl fmt::Display + Drop,
+        size: usize,
+    ) -> io::Result<()> {
         let (at, indent) = (self.at, self.indent);
         println!(self.rt; "{:indent$}{name} at {at}: {value}", "")?;
         self.skip(size);
@@ -51,19 +57,8 @@ impl<'a> Page<'a> {
 
     // A signer's seal, with what the keys say of it.
     pub fn seal(&mut self, signer: u16, said: Said<'_>, tag: u64) -> io::Result<()> {
-        let (at, indent) = (self.at, self.indent);
         let verdict = self.keys.verdict(signer, said, tag);
-        println!(self.rt; "{:indent$}seal at {at}: {tag:016x}{verdict}", "")?;
-        self.skip(8);
-        Ok(())
-    }
-
-    pub fn bytes(&mut self, name: &str, bytes: &[u8]) -> io::Result<()> {
-        let (at, indent) = (self.at, self.indent);
-        let hex = Hex(bytes);
-        println!(self.rt; "{:indent$}{name} at {at}: {hex}", "")?;
-        self.skip(bytes.len());
-        Ok(())
+        self.field("seal", format_args!("{tag:016x}{verdict}"), SEAL_SIZE)
     }
 
     // The mask of a certificate, as the stations that it shows.

@@ -1,5 +1,6 @@
 // The records laid out on a page.
 use crate::page::Page;
+use hex_text::Hex;
 use records::arrivals::{Arrival, Inform, NewView, Record, ViewState};
 use records::certificate::Certificate;
 use records::request::{Proposal, Request};
@@ -22,16 +23,17 @@ pub fn title(message: &Record) -> &'static str {
 
 impl Page<'_> {
     fn request(&mut self, request: &Request) -> io::Result<()> {
-        self.number("client", u64::from(request.client), 2)?;
-        self.number("sequence", u64::from(request.sequence), 4)?;
-        self.bytes("payload", &request.payload.bytes)?;
+        self.field("client", request.client, 2)?;
+        self.field("sequence", request.sequence, 4)?;
+        let payload = &request.payload.bytes;
+        self.field("payload", Hex(payload), payload.len())?;
         self.seal(request.client, Said::Asks(request), request.seal)
     }
 
     fn proposal(&mut self, proposal: &Proposal) -> io::Result<()> {
         self.open("proposal")?;
-        self.number("view", u64::from(proposal.view), 4)?;
-        self.number("round", u64::from(proposal.round), 4)?;
+        self.field("view", proposal.view, 4)?;
+        self.field("round", proposal.round, 4)?;
         self.open("request")?;
         self.request(&proposal.request)?;
         self.close();
@@ -63,7 +65,7 @@ impl Page<'_> {
         support: Support,
         certificates: &[Certificate],
     ) -> io::Result<()> {
-        self.number(name, certificates.len() as u64, 1)?;
+        self.field(name, certificates.len(), 1)?;
         for certificate in certificates {
             self.certificate(support, certificate)?;
         }
@@ -72,11 +74,11 @@ impl Page<'_> {
 
     fn sender(&mut self, sender: u8) -> io::Result<()> {
         self.skip(2);
-        self.number("sender", u64::from(sender), 1)
+        self.field("sender", sender, 1)
     }
 
     fn view(&mut self, view: u32) -> io::Result<()> {
-        self.number("view", u64::from(view), 4)
+        self.field("view", view, 4)
     }
 
     fn view_state(&mut self, state: &ViewState) -> io::Result<()> {
@@ -90,7 +92,7 @@ impl Page<'_> {
     fn new_view(&mut self, view: &NewView) -> io::Result<()> {
         self.sender(view.sender)?;
         self.view(view.view)?;
-        self.number("view states", view.states.len() as u64, 1)?;
+        self.field("view states", view.states.len(), 1)?;
         for state in view.states.as_slice() {
             self.open("VS ViewState")?;
             self.view_state(state)?;
@@ -102,7 +104,7 @@ impl Page<'_> {
     fn inform(&mut self, inform: &Inform) -> io::Result<()> {
         self.sender(inform.sender)?;
         self.proposal(&inform.proposal)?;
-        self.number("result", inform.result, 8)?;
+        self.field("result", inform.result, 8)?;
         self.seal(u16::from(inform.sender), Said::Informs(inform), inform.seal)
     }
 
