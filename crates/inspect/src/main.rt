@@ -20,14 +20,16 @@ use ring_lines::{NoRingLine, RingLine};
 use std::io;
 use std::io::{BufRead, BufReader};
 
-// What was told so far: the number of stations, and the signers' keys.
+// Where lines are answered, and what was told so far: the number of stations, and the signers' keys.
 #[derive(Drop)]
-struct Setup {
+struct Session<'a> {
+    rt: &'a HostRuntime,
+    // 0 until it is told: a record is then refused as in a ring of 0, and the answer says 0
     stations: usize,
     keys: Keys,
 }
 
-impl Setup {
+impl Session<'_> {
     fn take(&mut self, told: RingLine) -> Result<(), Fault> {
         match told {
             RingLine::Stations(stations) => self.stations = stations,
@@ -47,57 +49,58 @@ impl Setup {
     }
 
     // What stands at the place of a refusal: the next bytes, at most eight, or the input's end.
-    fn show_place(&self, rt: &HostRuntime, fault: Fault, bytes: &[u8]) -> io::Result<()> {
+    fn show_place(&self, fault: Fault, bytes: &[u8]) -> io::Result<()> {
         let place = fault.place();
         if let Fault::WrongSender(_) = fault {
             let stations = self.stations;
-            return println!(rt; "  a ring has 1 to 10 stations, not {stations}");
+            return println!(self.rt; "  a ring has 1 to 10 stations, not {stations}");
         }
         if place >= bytes.len() {
-            return println!(rt; "  at {place}: the input ends here");
+            return println!(self.rt; "  at {place}: the input ends here");
         }
         let rest = &bytes[place..];
         let next = Hex(&rest[..rest.len().min(8)]);
-        println!(rt; "  at {place}: {next}")
+        println!(self.rt; "  at {place}: {next}")
     }
 
-    fn show(&self, rt: &HostRuntime, bytes: &[u8]) -> io::Result<()> {
+    fn show(&self, bytes: &[u8]) -> io::Result<()> {
         match self.read(bytes) {
             Ok(message) => {
                 let name = title(&message);
-                println!(rt; "{name}")?;
-                Page::new(rt, &self.keys).record(&message)
+                println!(self.rt; "{name}")?;
+                Page::new(self.rt, &self.keys).record(&message)
             }
             Err(fault) => {
-                println!(rt; "refused {fault}")?;
-                self.show_place(rt, fault, bytes)
+                println!(self.rt; "refused {fault}")?;
+                self.show_place(fault, bytes)
             }
         }
     }
 
     // A line that is a record, or is said to be none.
-    fn record_line(&self, rt: &HostRuntime, text: &str) -> anyhow::Result<()> {
-        match decode(rt.alloc(), text.as_bytes())? {
-            Some(bytes) => self.show(rt, bytes.as_slice())?,
-            None => println!(rt; "no hex: {text}")?,
+    fn record_line(&self, text: &str) -> anyhow::Result<()> {
+        match decode(self.rt.alloc(), text.as_bytes())? {
+            Some(bytes) => self.show(bytes.as_slice())?,
+            None => println!(self.rt; "no hex: {text}")?,
         }
         Ok(())
     }
 }
 
 fn run(rt: &HostRuntime) -> anyhow::Result<()> {
-    let mut setup = Setup {
+    let mut session = Session {
+        rt,
         stations: 0,
         keys: Keys::new(),
     };
     for line in BufReader::new(rt.alloc(), rt.stdin())?.lines(rt.alloc()) {
         let line = line?;
         match RingLine::try_from(line.as_str()) {
-            Ok(told) => match setup.take(told) {
+            Ok(told) => match session.take(told) {
                 Ok(()) => println!(rt; "{told}")?,
                 Err(fault) => println!(rt; "refused {fault}")?,
             },
-            Err(NoRingLine::Other) => setup.record_line(rt, line.as_str())?,
+            Err(NoRingLine::Other) => session.record_line(line.as_str())?,
             Err(none) => println!(rt; "{none}")?,
         }
     }
