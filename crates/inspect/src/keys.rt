@@ -45,7 +45,8 @@ impl Keys {
         Ok(())
     }
 
-    // What the keys say of a signer's seal over a statement.
+    // What the keys say of a signer's seal over a statement. `seals` asks in the same way, but keeps that to itself, and
+    // its callers promise that the statement fits; here one that does not fit is not genuine.
     pub fn verdict(&self, signer: u16, said: Said<'_>, tag: u64) -> Verdict {
         let Some(keys) = &self.0 else {
             return Verdict::NotTried;

@@ -35,7 +35,7 @@ impl Setup {
         Counter::new(usize::from(self.ring?.stations()), seals, first)
     }
 
-    // None without a ring.
+    // As the answers name it: 0 without a ring.
     pub fn quorum(&self) -> u8 {
         self.ring.map_or(0, Ring::quorum)
     }
