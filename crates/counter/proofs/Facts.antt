@@ -19,9 +19,10 @@ use Rattle.informs.specs.ProofsOfExecution.{Seals, Genuine, Sound}
 use Rattle.informs.specs.declared.agreed.Release.{Release}
 use Rattle.informs.specs.Sameness.{request_decides}
 use Rattle.informs.proofs.Executions.{proof_of, placed_more, placed_set, sound_set}
-use Rattle.outbox.specs.Trays.{Sent}
+use Rattle.outbox.specs.Trays.{SentInto}
+use Rattle.outbox.specs.declared.tray.Tray.{Tray}
 use Rattle.seals.specs.Tried.{first_false, seals_of_inform}
-use Rattle.counter.specs.Opening.{Posted}
+use Rattle.counter.specs.Opening.{PostedInto}
 use Rattle.counter.specs.Standing.{Core, placed_in}
 use Rattle.counter.specs.Hearing.{about, wanted, taken, SoundIn}
 use Rattle.counter.specs.Closing.{served, Released}
@@ -99,11 +100,18 @@ closed_proof held seen t a release view p s e genuine sound =
     subst (λ o. Released genuine seen.stations o (Ok release)) (sym is) proof
 
 -- a request sent into a tray that has the room
-pub posted : (r : Request) (before after : List ℕ) (used used' : ℕ) (answer : Result (Unit {0}) Fault) → length r.payload.bytes ≡ 16 → used + 32 ≤ length before → Sent before after used used' (record_bytes (rec.Request r)) answer → Posted before after used used' (Ok r)
-posted r before after used used' answer e b s =
+pub posted : (r : Request) (before after : Tray) (answer : Result (Unit {0}) Fault) → length r.payload.bytes ≡ 16 → before.fill.used + 32 ≤ length before.memory.now → SentInto before after (record_bytes (rec.Request r)) answer → PostedInto before after (Ok r)
+posted r before after answer e b s =
+    let used = before.fill.used in
+    let size = length before.memory.now in
+    let bytes = record_bytes (rec.Request r) in
     let l = request_long r e in
-    let end : used + length (record_bytes (rec.Request r)) ≡ used + 32 = omega arith in
-    let fits : used + length (record_bytes (rec.Request r)) ≤ length before = omega arith in (
-      s.filled ∙ cond-true (leb (used + length (record_bytes (rec.Request r))) (length before)) (used + length (record_bytes (rec.Request r))) used (le-leb (used + length (record_bytes (rec.Request r))) (length before) fits) ∙ end,
-      subst (λ k. take k after ≡ take used before ++ record_bytes (rec.Request r)) end (s.added fits),
-    )
+    let end : used + length bytes ≡ used + 32 = omega arith in
+    let fits : used + length bytes ≤ size = omega arith in
+    record {
+      same = s.same;
+      posted = (
+        s.sent.filled ∙ cond-true (leb (used + length bytes) size) (used + length bytes) used (le-leb (used + length bytes) size fits) ∙ end,
+        subst (λ k. take k after.memory.now ≡ take used before.memory.now ++ bytes) end (s.sent.added fits),
+      );
+    }

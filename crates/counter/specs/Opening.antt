@@ -1,7 +1,8 @@
 -- What opening answers and leaves.
-use Rattle.std.specs.Prelude.{◌≡◌, ℕ, ◌+◌, Bool, cond, List, ◌++◌, take, replicate, is_some, Some, None, Ok, Err, Result, nat_le}
+use Rattle.std.specs.Prelude.{◌≡◌, ℕ, ◌+◌, Bool, cond, List, ◌++◌, length, take, replicate, is_some, Some, None, Ok, Err, Result, nat_le}
 use Rattle.quorum.specs.declared.refusal.Fault.{Fault}
 use Rattle.quorum.specs.declared.refusal.Fault.TheVariants.{NoRoom, NotNow, OutOfRange}
+use Rattle.outbox.specs.declared.tray.Tray.{Tray}
 use Rattle.records.specs.Statements.{covered}
 use Rattle.records.specs.Writing.{record_bytes}
 use Rattle.records.specs.declared.arrivals.Record.TheVariants as rec
@@ -21,6 +22,10 @@ sealed_by tag r =
 abbrev pub unsealed : ℕ → ℕ → List ℕ → Request
 unsealed client sequence bytes =
     record { client = client; sequence = sequence; payload = record { bytes = bytes }; seal = 0 }
+
+-- has a tray room for a request?
+abbrev pub has_room : Tray → Bool
+has_room tray = nat_le (tray.fill.used + 32) (length tray.memory.now)
 
 -- the request of an opening: there must be room for it, no other request open, and a sequence left
 abbrev pub asks : Bool → (List ℕ → ℕ) → Core → List ℕ → Result Request Fault
@@ -47,3 +52,8 @@ abbrev pub Posted : List ℕ → List ℕ → ℕ → ℕ → Result Request Fau
 Posted before after used used' (Err f) = (used' ≡ used) × (take used after ≡ take used before)
 Posted before after used used' (Ok r) =
     (used' ≡ used + 32) × (take (used + 32) after ≡ take used before ++ record_bytes (rec.Request r))
+
+-- a request posted into a tray, whose memory is still the memory that was lent
+pub record PostedInto (before after : Tray) (answer : Result Request Fault) : Type 0 where
+  pub same : after.memory.ghost_name ≡ before.memory.ghost_name
+  pub posted : Posted before.memory.now after.memory.now before.fill.used after.fill.used answer

@@ -1,9 +1,9 @@
 // The calls on a counter.
-ghost use Rattle.std.specs.Prelude.{◌≡◌, ◌+◌, true, length, IfOk, nat_le};
+ghost use Rattle.std.specs.Prelude.{◌≡◌, true, length, IfOk};
 ghost use Rattle.std.specs.Option.{option_copied};
 ghost use Rattle.informs.specs.ProofsOfExecution.{Seals};
 ghost use Rattle.counter.specs.Making.{made_of};
-ghost use Rattle.counter.specs.Opening.{asks, opened, Posted};
+ghost use Rattle.counter.specs.Opening.{asks, has_room, opened, PostedInto};
 ghost use Rattle.counter.specs.Hearing.{taken, hearing, SoundIn};
 ghost use Rattle.counter.specs.Closing.{served, closing, writing_off, most_in, Released};
 
@@ -75,9 +75,8 @@ impl Counter {
         payload: Payload,
         tray: &mut Tray<'_>,
     ) -> Result<Ticket, Fault>
-        ensures answer { (result, self.new) ≡ opened self.old (asks (nat_le (tray.old.fill.used + 32) (length tray.old.memory.now)) (B.tag seals.now) self.old payload.bytes) }
-        ensures same { tray.new.memory.ghost_name ≡ tray.old.memory.ghost_name }
-        ensures tray { Posted tray.old.memory.now tray.new.memory.now tray.old.fill.used tray.new.fill.used (asks (nat_le (tray.old.fill.used + 32) (length tray.old.memory.now)) (B.tag seals.now) self.old payload.bytes) }
+        ensures answer { (result, self.new) ≡ opened self.old (asks (has_room tray.old) (B.tag seals.now) self.old payload.bytes) }
+        ensures tray { PostedInto tray.old tray.new (asks (has_room tray.old) (B.tag seals.now) self.old payload.bytes) }
         ensures sound { (genuine : Seals) → SoundIn genuine self.old.current → SoundIn genuine self.new.current }
     {
         if tray.memory.len().saturating_sub(tray.fill.used) < REQUEST_SIZE {

@@ -9,7 +9,8 @@ use Rattle.records.specs.Writing.{record_bytes}
 use Rattle.records.specs.declared.arrivals.Record.{Record}
 use Rattle.codec.proofs.Laws.{record_reads}
 use Rattle.quorum.specs.declared.refusal.Fault.{Fault}
-use Rattle.outbox.specs.Trays.{Sent, ReadsBack}
+use Rattle.outbox.specs.Trays.{Sent, SentInto, ReadsBack}
+use Rattle.outbox.specs.declared.tray.Tray.{Tray}
 
 -- what was sent is what the tray shows from the old fill to the new, so it reads back
 pub sent_back : {m m₁ : List ℕ} {used used' : ℕ} (sent : Record) (r : Result (Unit {0}) Fault) → Sent m m₁ used used' (record_bytes sent) r → ReadsBack m₁ used used' sent r
@@ -26,5 +27,5 @@ sent_back {m} {m₁} {used} {used'} sent (Ok u) s = λ n some few right.
 sent_back sent (Err f) s = tt
 
 -- the same bytes by another name
-pub sent_as : {m m₁ : List ℕ} {used used' : ℕ} {xs ys : List ℕ} {r : Result (Unit {0}) Fault} → xs ≡ ys → Sent m m₁ used used' xs r → Sent m m₁ used used' ys r
-sent_as {m} {m₁} {used} {used'} {xs} {ys} {r} e s = subst (λ bs. Sent m m₁ used used' bs r) e s
+pub sent_as : {before after : Tray} {xs ys : List ℕ} {r : Result (Unit {0}) Fault} → xs ≡ ys → SentInto before after xs r → SentInto before after ys r
+sent_as {before} {after} {xs} {ys} {r} e s = subst (λ bs. SentInto before after bs r) e s

@@ -7,6 +7,7 @@ use Rattle.records.specs.Reading.{record_of}
 use Rattle.records.specs.declared.arrivals.Record.{Record}
 use Rattle.quorum.specs.declared.refusal.Fault.{Fault}
 use Rattle.quorum.specs.declared.refusal.Fault.TheVariants.{NoRoom}
+use Rattle.outbox.specs.declared.tray.Tray.{Tray}
 
 -- the place after so many bytes, where the memory has room for them
 abbrev pub room : ℕ → ℕ → ℕ → Result ℕ Fault
@@ -31,3 +32,12 @@ pub record Sent (before after : List ℕ) (used used' : ℕ) (bytes : List ℕ) 
 abbrev pub ReadsBack : List ℕ → ℕ → ℕ → Record → Result (Unit {0}) Fault → Type 0
 ReadsBack after used used' sent r =
     OnOk r ((n : ℕ) → 1 ≤ n → n ≤ 10 → RightRecord n sent → record_of n (between used used' after) ≡ Ok sent)
+
+-- a record sent into a tray, whose memory is still the memory that was lent
+pub record SentInto (before after : Tray) (bytes : List ℕ) (answer : Result (Unit {0}) Fault) : Type 0 where
+  pub same : after.memory.ghost_name ≡ before.memory.ghost_name
+  pub sent : Sent before.memory.now after.memory.now before.fill.used after.fill.used bytes answer
+
+-- what was sent reads back from the tray after, from the fill before to the fill after
+abbrev pub ReadsBackFrom : Tray → Tray → Record → Result (Unit {0}) Fault → Type 0
+ReadsBackFrom before after sent r = ReadsBack after.memory.now before.fill.used after.fill.used sent r

@@ -1,6 +1,6 @@
 // Records sent into a tray, each whole or not at all.
-ghost use Rattle.std.specs.Prelude.{◌≡◌, ℕ};
-ghost use Rattle.outbox.specs.Trays.{Sent, ReadsBack};
+ghost use Rattle.std.specs.Prelude.{ℕ};
+ghost use Rattle.outbox.specs.Trays.{SentInto, ReadsBackFrom};
 ghost use Rattle.outbox.specs.Pens.{Wrote, Stays, SealsWith};
 ghost use Rattle.records.specs.Writing.{record_bytes};
 ghost use Rattle.records.specs.Statements.{covered, rest_bytes, under_seal};
@@ -47,9 +47,8 @@ fn send_sealed<F: FnOnce(&[u8]) -> u64>(
     seal: F,
 ) -> Result<(), Fault>
     requires { F.IsAlwaysCallable seal }
-    ensures same { tray.new.memory.ghost_name ≡ tray.old.memory.ghost_name }
-    ensures sent { (tag : ℕ) → SealsWith F.FnOnce seal (covered message.now) tag
-        → Sent tray.old.memory.now tray.new.memory.now tray.old.fill.used tray.new.fill.used (record_bytes (under_seal message.now tag)) result }
+    ensures { (tag : ℕ) → SealsWith F.FnOnce seal (covered message.now) tag
+        → SentInto tray.old tray.new (record_bytes (under_seal message.now tag)) result }
 {
     let start = tray.fill.used;
     // a fill beyond the memory leaves no room
@@ -71,9 +70,8 @@ fn send_sealed<F: FnOnce(&[u8]) -> u64>(
 
 // A record under the seal that it holds.
 pub fn write(message: &Record, tray: &mut Tray<'_>) -> Result<(), Fault>
-    ensures same { tray.new.memory.ghost_name ≡ tray.old.memory.ghost_name }
-    ensures sent { Sent tray.old.memory.now tray.new.memory.now tray.old.fill.used tray.new.fill.used (record_bytes message.now) result }
-    ensures back { ReadsBack tray.new.memory.now tray.old.fill.used tray.new.fill.used message.now result }
+    ensures sent { SentInto tray.old tray.new (record_bytes message.now) result }
+    ensures back { ReadsBackFrom tray.old tray.new message.now result }
 {
     let seal = message.seal();
     send_sealed(message, tray, |_| seal)
@@ -81,9 +79,8 @@ pub fn write(message: &Record, tray: &mut Tray<'_>) -> Result<(), Fault>
 
 // A record under a seal box's own seal, whatever seal it holds: the box seals the part of the tray just written.
 pub fn send<B: SealBox>(seals: &B, message: &Record, tray: &mut Tray<'_>) -> Result<(), Fault>
-    ensures same { tray.new.memory.ghost_name ≡ tray.old.memory.ghost_name }
-    ensures sent { Sent tray.old.memory.now tray.new.memory.now tray.old.fill.used tray.new.fill.used (record_bytes (under_seal message.now (B.tag seals.now (covered message.now)))) result }
-    ensures back { ReadsBack tray.new.memory.now tray.old.fill.used tray.new.fill.used (under_seal message.now (B.tag seals.now (covered message.now))) result }
+    ensures sent { SentInto tray.old tray.new (record_bytes (under_seal message.now (B.tag seals.now (covered message.now)))) result }
+    ensures back { ReadsBackFrom tray.old tray.new (under_seal message.now (B.tag seals.now (covered message.now))) result }
 {
     send_sealed(message, tray, |covered| seals.seal(covered))
 }

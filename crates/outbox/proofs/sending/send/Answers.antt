@@ -6,4 +6,4 @@ use Rattle.outbox.proofs.sending.send.Goals as goal
 
 pub returns-clause-back : goal.returns-clause-back
 returns-clause-back g c =
-    sent_back (under_seal c.args.message.now (g.B.SealBox.tag c.args.seals.now (covered c.args.message.now))) _ (c.send_sealed.ensures.sent _ (search rules))
+    sent_back (under_seal c.args.message.now (g.B.SealBox.tag c.args.seals.now (covered c.args.message.now))) _ (c.send_sealed.ensures _ (search rules)).sent

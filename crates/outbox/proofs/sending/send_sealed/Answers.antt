@@ -3,9 +3,11 @@ use Rattle.std.proofs.Common.{rules}
 use Rattle.outbox.proofs.Pens.{sent_whole, sent_none}
 use Rattle.outbox.proofs.sending.send_sealed.Goals as goal
 
-pub returns-in_err-put_sealed-clause-sent : goal.returns-in_err-put_sealed-clause-sent
-returns-in_err-put_sealed-clause-sent g c tag only =
-    sent_none (c.in_err-put_sealed.ensures.wrote tag only) c.from_residual.ensures.1 (search rules) c.drop-draft.ensures
+pub returns-in_err-put_sealed : goal.returns-in_err-put_sealed
+returns-in_err-put_sealed g c tag only = record {
+  same = search rules;
+  sent = sent_none (c.in_err-put_sealed.ensures.wrote tag only) c.from_residual.ensures.1 (search rules) c.drop-draft.ensures;
+}
 
-pub returns-clause-sent : goal.returns-clause-sent
-returns-clause-sent g c tag only = sent_whole (c.in_ok-put_sealed.ensures.wrote tag only) (search rules) (search rules)
+pub returns : goal.returns
+returns g c tag only = record { same = search rules; sent = sent_whole (c.in_ok-put_sealed.ensures.wrote tag only) (search rules) (search rules) }

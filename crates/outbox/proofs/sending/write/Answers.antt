@@ -11,7 +11,7 @@ own : (r : Record) → record_bytes (under_seal r (own_seal r)) ≡ record_bytes
 own r = split_under r (own_seal r) ∙ sym (split_own r)
 
 pub returns-clause-sent : goal.returns-clause-sent
-returns-clause-sent c = sent_as (own c.args.message.now) (c.send_sealed.ensures.sent (own_seal c.args.message.now) (search rules))
+returns-clause-sent c = sent_as (own c.args.message.now) (c.send_sealed.ensures (own_seal c.args.message.now) (search rules))
 
 pub returns-clause-back : goal.returns-clause-back
-returns-clause-back c = sent_back c.args.message.now _ (returns-clause-sent c)
+returns-clause-back c = sent_back c.args.message.now _ (returns-clause-sent c).sent
