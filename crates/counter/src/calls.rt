@@ -15,7 +15,7 @@ use outbox::sending::write;
 use outbox::tray::Tray;
 use payload::Payload;
 use quorum::figures::Ring;
-use quorum::limits::FIRST_CLIENT;
+use quorum::limits::{FIRST_CLIENT, FIRST_SEQUENCE};
 use quorum::refusal::Fault;
 use records::arrivals::{Inform, Record};
 use records::places::SEAL_SIZE;
@@ -39,7 +39,7 @@ impl Counter {
         if client < FIRST_CLIENT {
             return Err(Fault::WrongSender(0));
         }
-        if first == 0 {
+        if first < FIRST_SEQUENCE {
             return Err(Fault::OutOfRange(0));
         }
         Ok(Counter {
