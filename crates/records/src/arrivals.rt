@@ -43,7 +43,7 @@ pub struct Failure {
 }
 
 // What a station holds as it leaves a view: its last commit and the prepared lines above it.
-#[derive(Drop, Default)]
+#[derive(Clone, Drop, Default)]
 pub struct ViewState {
     pub sender: u8,
     pub view: u32,
@@ -53,7 +53,7 @@ pub struct ViewState {
 }
 
 // The next primary's start of a view, from a quorum of view states.
-#[derive(Drop, Default)]
+#[derive(Clone, Drop, Default)]
 pub struct NewView {
     pub sender: u8,
     pub view: u32,
@@ -62,7 +62,7 @@ pub struct NewView {
 }
 
 // What may arrive at a station from another.
-#[derive(Drop)]
+#[derive(Clone, Drop)]
 pub enum Arrival {
     Propose(Propose),
     Prepare(Prepare),
@@ -73,7 +73,7 @@ pub enum Arrival {
 }
 
 // Any record: a client's request, an answer to a client, or what stations send each other.
-#[derive(Drop)]
+#[derive(Clone, Drop)]
 pub enum Record {
     Request(Request),
     Inform(Inform),
