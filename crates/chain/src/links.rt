@@ -7,18 +7,18 @@ ghost use Rattle.records.specs.Chain.{rounds_link, commit_link, next_round, stat
 
 use quorum::figures::Ring;
 use quorum::refusal::Fault;
-use records::arrivals::{Arrival, NewView, ViewState};
+use records::arrivals::{Arrival, NewView};
 use records::certificate::Certificate;
 use records::certificate::sizes::certificate_size;
-use records::places::StateStart;
+use records::places::{FIRST_STATE, PlacedState};
 
 // The commit certificate: no view above the view state's.
-fn commit_link(start: StateStart, state: &ViewState) -> Result<(), Fault>
-    ensures { result ≡ (commit_link (stations_of start.ring) state.now.view (start.at + 7) state.now.commit then (λ _. Ok tt)) }
+fn commit_link(placed: PlacedState<'_>) -> Result<(), Fault>
+    ensures { result ≡ (commit_link (stations_of placed.entry.ring) placed.entry.state.now.view (placed.entry.at + 7) placed.entry.state.now.commit then (λ _. Ok tt)) }
 {
-    match &state.commit {
-        Some(certificate) if certificate.proposal.view > state.view => {
-            Err(Fault::BrokenChain(start.places(state).commit))
+    match &placed.state.commit {
+        Some(certificate) if certificate.proposal.view > placed.state.view => {
+            Err(Fault::BrokenChain(placed.places().commit))
         }
         _ => Ok(()),
     }
@@ -36,16 +36,16 @@ fn next_round(commit: &Option<Certificate>) -> u64
 }
 
 // Prepared certificates: no view above the view state's, and rounds that follow one another.
-fn rounds_link(start: StateStart, state: &ViewState) -> Result<(), Fault>
-    ensures { result ≡ (rounds_link (stations_of start.ring) state.now.view (prepared_place (stations_of start.ring) start.at state.now) (next_round state.now.commit) state.now.prepared.items then (λ _. Ok tt)) }
+fn rounds_link(placed: PlacedState<'_>) -> Result<(), Fault>
+    ensures { result ≡ (rounds_link (stations_of placed.entry.ring) placed.entry.state.now.view (prepared_place (stations_of placed.entry.ring) placed.entry.at placed.entry.state.now) (next_round placed.entry.state.now.commit) placed.entry.state.now.prepared.items then (λ _. Ok tt)) }
 {
-    let size = certificate_size(start.ring);
-    let first = start.places(state).prepared;
-    let round = next_round(&state.commit);
-    let certificates = state.prepared.as_slice();
+    let size = certificate_size(placed.ring);
+    let first = placed.places().prepared;
+    let round = next_round(&placed.state.commit);
+    let certificates = placed.state.prepared.as_slice();
     for (i, certificate) in certificates.iter().enumerate() {
         let place = first + i * size;
-        if certificate.proposal.view > state.view {
+        if certificate.proposal.view > placed.state.view {
             return Err(Fault::BrokenChain(place));
         }
         if u64::from(certificate.proposal.round) != round + i as u64 {
@@ -55,37 +55,37 @@ fn rounds_link(start: StateStart, state: &ViewState) -> Result<(), Fault>
     Ok(())
 }
 
-// A view state where it begins.
-fn state_link(start: StateStart, state: &ViewState) -> Result<(), Fault>
-    ensures { result ≡ (state_link (stations_of start.ring) start.at state.now then (λ _. Ok tt)) }
+// A view state.
+fn state_link(placed: PlacedState<'_>) -> Result<(), Fault>
+    ensures { result ≡ (state_link (stations_of placed.entry.ring) placed.entry.at placed.entry.state.now then (λ _. Ok tt)) }
 {
-    commit_link(start, state)?;
-    rounds_link(start, state)
+    commit_link(placed)?;
+    rounds_link(placed)
 }
 
 // One view state of a new view: a sender of the ring from `low` on, and the view before.
-fn member_link(view: u32, low: u16, start: StateStart, state: &ViewState) -> Result<(), Fault>
-    ensures { result ≡ (member_link (stations_of start.ring) view start.at low state.now then (λ _. Ok tt)) }
+fn member_link(view: u32, low: u16, placed: PlacedState<'_>) -> Result<(), Fault>
+    ensures { result ≡ (member_link (stations_of placed.entry.ring) view placed.entry.at low placed.entry.state.now then (λ _. Ok tt)) }
 {
-    if u16::from(state.sender) < low || state.sender >= start.ring.stations() {
-        return Err(Fault::BrokenChain(start.at + 2));
+    if u16::from(placed.state.sender) < low || placed.state.sender >= placed.ring.stations() {
+        return Err(Fault::BrokenChain(placed.at + 2));
     }
-    if u64::from(state.view) + 1 != u64::from(view) {
-        return Err(Fault::BrokenChain(start.at + 3));
+    if Some(placed.state.view) != view.checked_sub(1) {
+        return Err(Fault::BrokenChain(placed.at + 3));
     }
-    state_link(start, state)
+    state_link(placed)
 }
 
 // The view states of a new view, with rising senders.
 fn states_link(ring: Ring, view: &NewView) -> Result<(), Fault>
     ensures { result ≡ (states_link (stations_of ring) view.now.view 8 0 view.now.states.items then (λ _. Ok tt)) }
 {
-    let mut at = 8;
+    let mut at = FIRST_STATE;
     let mut low = 0;
     for state in view.states.as_slice() {
-        let start = StateStart { ring, at };
-        member_link(view.view, low, start, state)?;
-        at = start.places(state).end;
+        let placed = PlacedState { ring, at, state };
+        member_link(view.view, low, placed)?;
+        at = placed.places().end;
         low = u16::from(state.sender) + 1;
     }
     Ok(())
@@ -96,7 +96,7 @@ pub fn check_chain(ring: Ring, arrival: &Arrival) -> Result<(), Fault>
     ensures { result ≡ chain_of (stations_of ring) arrival.now }
 {
     match arrival {
-        Arrival::ViewState(state) => state_link(StateStart { ring, at: 0 }, state),
+        Arrival::ViewState(state) => state_link(PlacedState { ring, at: 0, state }),
         Arrival::NewView(view) => states_link(ring, view),
         _ => Ok(()),
     }

@@ -18,6 +18,12 @@ pub const SEALS_OFFSET: usize = 40;
 // The bytes of a seal.
 pub const SEAL_SIZE: usize = 8;
 
+// In a request: its seal, behind all that it covers.
+pub const REQUEST_SEAL: usize = 24;
+
+// In a new view: its first view state, behind the count of them.
+pub const FIRST_STATE: usize = 8;
+
 // The place after a certificate.
 pub fn after_certificate(ring: Ring, at: usize) -> usize
     requires { at ≤ longest_record }
@@ -71,20 +77,21 @@ impl ViewState {
     }
 }
 
-// Where a view state begins in a record of a ring.
+// A view state where it stands in a record of a ring.
 #[derive(Clone, Copy)]
-pub struct StateStart {
+pub struct PlacedState<'a> {
     pub ring: Ring,
     pub at: usize,
+    pub state: &'a ViewState,
     ghost room: { at + longest_state ≤ longest_record },
 }
 
-impl StateStart {
-    // The places of a view state that begins here.
-    pub fn places(self, state: &ViewState) -> StatePlaces
-        ensures value { result ≡ places_of (stations_of self.ring) self.at state.now }
-        ensures bound { result.end ≤ self.at + longest_state }
+impl PlacedState<'_> {
+    // The places of its parts.
+    pub fn places(self) -> StatePlaces
+        ensures value { result ≡ places_of (stations_of self.entry.ring) self.entry.at self.entry.state.now }
+        ensures bound { result.end ≤ self.entry.at + longest_state }
     {
-        state.places(self.ring, self.at)
+        self.state.places(self.ring, self.at)
     }
 }

@@ -14,16 +14,14 @@ use quorum::figures::Ring;
 use quorum::refusal::Fault;
 use reader::reading::{read_arrival, read_inform, read_request};
 use records::arrivals::{Arrival, Inform};
-use records::places::{SEAL_SIZE, StateStart};
+use records::places::{PlacedState, REQUEST_SEAL, SEAL_SIZE};
 use records::request::Request;
 use records::statement::{Said, Support};
 use seal_box::SealBox;
 
-// where the sender stands in a record, the seals of a submitted request, of a proposal's request and of an inform, and
-// the certificate of a check commit
+// where the sender stands in a record, the seals of a proposal's request and of an inform, and the certificate of a check
+// commit
 const SENDER_AT: usize = 2;
-
-const REQUEST_SEAL_AT: usize = 24;
 
 const PROPOSED_SEAL_AT: usize = 33;
 
@@ -97,7 +95,7 @@ fn try_inner<B: SealBox>(seals: &B, ring: Ring, arrival: &Arrival) -> Result<(),
         Arrival::CheckCommit(check) => {
             try_certificate(seals, Support::Prepared, PREPARED_AT, &check.prepared)
         }
-        Arrival::ViewState(state) => try_state(seals, StateStart { ring, at: 0 }, state),
+        Arrival::ViewState(state) => try_state(seals, PlacedState { ring, at: 0, state }),
         Arrival::NewView(view) => try_states(seals, ring, view),
         Arrival::Prepare(_) | Arrival::Failure(_) => Ok(()),
     }
@@ -131,7 +129,7 @@ pub fn admit_request<B: SealBox>(seals: &B, bytes: &[u8]) -> Result<Request, Fau
     ensures { result ≡ submitted (B.genuine seals.now) bytes.now }
 {
     let request = read_request(bytes)?;
-    try_request(seals, &request, REQUEST_SEAL_AT)?;
+    try_request(seals, &request, REQUEST_SEAL)?;
     Ok(request)
 }
 

@@ -11,34 +11,34 @@ use crate::asking::try_seal;
 use crate::certificates::try_certificate;
 use quorum::figures::Ring;
 use quorum::refusal::Fault;
-use records::arrivals::{NewView, ViewState};
+use records::arrivals::NewView;
 use records::certificate::sizes::certificate_size;
-use records::places::StateStart;
+use records::places::{FIRST_STATE, PlacedState};
 use records::statement::{Said, Support};
 use seal_box::SealBox;
 
 // The seals of the commit certificate.
-fn try_commit<B: SealBox>(seals: &B, start: StateStart, state: &ViewState) -> Result<(), Fault>
-    requires { RightCommit (stations_of start.ring) state.now.commit }
-    ensures { result ≡ first_false (B.genuine seals.now) (commit_seals (start.at + 7) state.now.commit) }
+fn try_commit<B: SealBox>(seals: &B, placed: PlacedState<'_>) -> Result<(), Fault>
+    requires { RightCommit (stations_of placed.ring) placed.state.now.commit }
+    ensures { result ≡ first_false (B.genuine seals.now) (commit_seals (placed.entry.at + 7) placed.entry.state.now.commit) }
 {
-    match &state.commit {
+    match &placed.state.commit {
         None => Ok(()),
         Some(certificate) => {
-            let place = start.places(state).commit;
+            let place = placed.places().commit;
             try_certificate(seals, Support::Committed, place, certificate)
         }
     }
 }
 
 // The seals of the prepared certificates.
-fn try_prepared<B: SealBox>(seals: &B, start: StateStart, state: &ViewState) -> Result<(), Fault>
-    requires { AllByRecursion (RightCertificate (stations_of start.ring)) state.now.prepared.items }
-    ensures { result ≡ first_false (B.genuine seals.now) (prepared_seals (stations_of start.ring) (prepared_place (stations_of start.ring) start.at state.now) state.now.prepared.items) }
+fn try_prepared<B: SealBox>(seals: &B, placed: PlacedState<'_>) -> Result<(), Fault>
+    requires { AllByRecursion (RightCertificate (stations_of placed.ring)) placed.state.now.prepared.items }
+    ensures { result ≡ first_false (B.genuine seals.now) (prepared_seals (stations_of placed.entry.ring) (prepared_place (stations_of placed.entry.ring) placed.entry.at placed.entry.state.now) placed.entry.state.now.prepared.items) }
 {
-    let size = certificate_size(start.ring);
-    let first = start.places(state).prepared;
-    let certificates = state.prepared.as_slice();
+    let size = certificate_size(placed.ring);
+    let first = placed.places().prepared;
+    let certificates = placed.state.prepared.as_slice();
     for (i, certificate) in certificates.iter().enumerate() {
         try_certificate(seals, Support::Prepared, first + i * size, certificate)?;
     }
@@ -47,26 +47,23 @@ fn try_prepared<B: SealBox>(seals: &B, start: StateStart, state: &ViewState) -> 
 
 // The certificates' seals of a view state; its own is not tried here.
 #[tactic(auto, using(crate::proofs::Turns::false_append))]
-pub(crate) fn try_state<B: SealBox>(
-    seals: &B,
-    start: StateStart,
-    state: &ViewState,
-) -> Result<(), Fault>
-    requires { RightState (stations_of start.ring) state.now }
-    ensures { result ≡ first_false (B.genuine seals.now) (state_seals (stations_of start.ring) start.at state.now) }
+pub(crate) fn try_state<B: SealBox>(seals: &B, placed: PlacedState<'_>) -> Result<(), Fault>
+    requires { RightState (stations_of placed.ring) placed.state.now }
+    ensures { result ≡ first_false (B.genuine seals.now) (state_seals (stations_of placed.entry.ring) placed.entry.at placed.entry.state.now) }
 {
-    try_commit(seals, start, state)?;
-    try_prepared(seals, start, state)
+    try_commit(seals, placed)?;
+    try_prepared(seals, placed)
 }
 
 // A view state inside a new view: its certificates' seals, then its own.
-fn try_member<B: SealBox>(seals: &B, start: StateStart, state: &ViewState) -> Result<(), Fault>
-    requires { RightState (stations_of start.ring) state.now }
-    ensures { result ≡ (first_false (B.genuine seals.now) (state_seals (stations_of start.ring) start.at state.now) then (λ _. first_false (B.genuine seals.now) (tried state.now.sender (state_says state.now) state.now.seal (state_seal_place (stations_of start.ring) start.at state.now) ∷ []))) }
+fn try_member<B: SealBox>(seals: &B, placed: PlacedState<'_>) -> Result<(), Fault>
+    requires { RightState (stations_of placed.ring) placed.state.now }
+    ensures { result ≡ (first_false (B.genuine seals.now) (state_seals (stations_of placed.entry.ring) placed.entry.at placed.entry.state.now) then (λ _. first_false (B.genuine seals.now) (tried placed.entry.state.now.sender (state_says placed.entry.state.now) placed.entry.state.now.seal (state_seal_place (stations_of placed.entry.ring) placed.entry.at placed.entry.state.now) ∷ []))) }
 {
-    try_state(seals, start, state)?;
+    try_state(seals, placed)?;
+    let state = placed.state;
     let signer = u16::from(state.sender);
-    let place = start.places(state).seal;
+    let place = placed.places().seal;
     try_seal(seals, signer, Said::Leaves(state), state.seal, place)
 }
 
@@ -75,11 +72,11 @@ pub(crate) fn try_states<B: SealBox>(seals: &B, ring: Ring, view: &NewView) -> R
     requires { AllByRecursion (RightState (stations_of ring)) view.now.states.items }
     ensures { result ≡ first_false (B.genuine seals.now) (states_seals (stations_of ring) 8 view.now.states.items) }
 {
-    let mut at = 8;
+    let mut at = FIRST_STATE;
     for state in view.states.as_slice() {
-        let start = StateStart { ring, at };
-        try_member(seals, start, state)?;
-        at = start.places(state).end;
+        let placed = PlacedState { ring, at, state };
+        try_member(seals, placed)?;
+        at = placed.places().end;
     }
     Ok(())
 }

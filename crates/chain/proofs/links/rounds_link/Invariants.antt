@@ -7,5 +7,5 @@ use Rattle.chain.proofs.links.rounds_link.Given as goal
 
 abbrev pub invariant-loop-i : goal.invariant-loop-i
 invariant-loop-i l =
-    rounds_link (stations_of l.fn.start.ring) l.state.view (l.first + l.i * l.size) (l.round + l.i) (drop l.i l.certificates)
-    ≡ rounds_link (stations_of l.fn.start.ring) l.state.view (prepared_place (stations_of l.fn.start.ring) l.fn.start.at l.state) (next_round l.state.commit) l.state.prepared.items
+    rounds_link (stations_of l.fn.placed.ring) l.fn.placed.state.now.view (l.first + l.i * l.size) (l.round + l.i) (drop l.i l.certificates)
+    ≡ rounds_link (stations_of l.fn.placed.ring) l.fn.placed.state.now.view (prepared_place (stations_of l.fn.placed.ring) l.fn.placed.at l.fn.placed.state.now) (next_round l.fn.placed.state.now.commit) l.fn.placed.state.now.prepared.items

@@ -7,5 +7,5 @@ use Rattle.seals.proofs.states.try_prepared.Given as goal
 
 abbrev pub invariant-loop-i : goal.invariant-loop-i
 invariant-loop-i g l =
-    first_false (g.B.SealBox.genuine l.seals) (prepared_seals (stations_of l.fn.start.ring) (l.first + l.i * l.size) (drop l.i l.certificates))
-    ≡ first_false (g.B.SealBox.genuine l.seals) (prepared_seals (stations_of l.fn.start.ring) (prepared_place (stations_of l.fn.start.ring) l.fn.start.at l.fn.state) l.fn.state.prepared.items)
+    first_false (g.B.SealBox.genuine l.seals) (prepared_seals (stations_of l.fn.placed.ring) (l.first + l.i * l.size) (drop l.i l.certificates))
+    ≡ first_false (g.B.SealBox.genuine l.seals) (prepared_seals (stations_of l.fn.placed.ring) (prepared_place (stations_of l.fn.placed.ring) l.fn.placed.at l.fn.placed.state.now) l.fn.placed.state.now.prepared.items)
