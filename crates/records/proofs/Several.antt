@@ -1,11 +1,10 @@
 -- A loop that reads several values, one after another: what holds after i of them, and one turn.
 -- Assumes nothing.
-use Rattle.std.proofs.Common.{◌≡◌, ℕ, zero, suc, ◌+◌, ◌-◌, ◌<◌, ltb, List, [], ◌∷◌, ◌++◌, length, set, replicate, Ok, Err, Result, sym, refl, ap, ◌∙◌, subst, ap₂, add-zero, add-suc, add-one, arith}
+use Rattle.std.proofs.Common.{◌≡◌, ℕ, zero, suc, ◌+◌, ◌-◌, ◌<◌, List, [], ◌∷◌, ◌++◌, length, set, replicate, Ok, Err, Result, sym, refl, ap, ◌∙◌, subst, add-zero, add-suc, add-one, arith}
 use native.Mathlib.Nat.{sub-zero}
 use Rattle.std.proofs.lemmas.List.{append-nil, append_assoc, length_push, set_at}
 use Rattle.quorum.specs.declared.refusal.Fault.{Fault}
-use Rattle.std.proofs.lemmas.Bool.{cond-true, lt-ltb}
-use Rattle.records.specs.Reading.{several, ◌then◌}
+use Rattle.records.specs.Reading.{several}
 
 -- after i values: what was read, the array that holds it with blanks after it, and the place reached
 pub record Gathered {A : Type 0} (read : ℕ → ℕ → Result (A × ℕ) Fault) (blank : A) (n at i : ℕ) (items : List A) (place : ℕ) : Type 0 where

@@ -1,5 +1,5 @@
 -- At most eight certificates of at most 96 bytes each.
-use Rattle.std.proofs.Common.{◌*◌, ◌≤◌, length, mul-le-mul, arith, rules}
+use Rattle.std.proofs.Common.{◌*◌, ◌≤◌, mul-le-mul, arith, rules}
 use Rattle.records.proofs.arrivals.ViewState.places.Goals as goal
 
 pub returns : goal.returns
