@@ -1,6 +1,13 @@
 -- Counting the words of a row is counting the stations that are alike, whatever the tally names. Assumes nothing.
-use Rattle.std.proofs.Common.{◌≡◌, ℕ, zero, suc, ◌+◌, ◌-◌, ◌<◌, ◌≤◌, max, fold, Bool, true, false, cond, leb, ◌⊎◌, List, [], ◌∷◌, ◌++◌, length, get_or, take, Some, None, Option, sym, refl, ap, ◌∙◌, subst, inl, inr, ⊎_elim, arith}
-use Rattle.std.proofs.lemmas.List.{take_more, length-take-le, append-nil}
+use Rattle.std.proofs.Common.{◌≡◌, ℕ, zero, suc, ◌+◌, ◌-◌, ◌<◌, ◌≤◌, max, fold, Bool, true, false, cond, leb, ◌⊎◌, List, [], ◌∷◌, ◌++◌, length, get_or, map, Some, None, Option, sym, refl, ap, ◌∙◌, subst, inl, inr, ⊎_elim, append_assoc, arith, length-append}
+use Rattle.std.specs.Borrow.{Bor}
+use Rattle.std.specs.Iterator.{AlwaysYields}
+use Rattle.std.specs.Iterator.Adapters.{option_iter_item, option_iter_done, option_iter_steps}
+use Rattle.std.specs.List.{flat_map}
+use Rattle.std.specs.Option.{option_to_list}
+use Rattle.std.proofs.lemmas.Iterator.{YieldsList}
+use Rattle.std.proofs.lemmas.Iterator.Consumers.{YieldsList-from_shown}
+use Rattle.std.proofs.lemmas.List.{append-nil}
 use Rattle.std.proofs.lemmas.Bool.{cond-true, cond-false, lt-leb}
 use Rattle.std.proofs.lemmas.Bool.Decides.{nat_tests}
 use Rattle.quorum.specs.Figures.{quorum_of}
@@ -208,28 +215,68 @@ most_in_ring n h p =
     let b = told_few n 0 h p in
     omega arith
 
-told_on : (h : List (Option Inform)) (o : Option Inform) → told (h ++ o ∷ []) ≡ told h ++ told (o ∷ [])
-told_on [] o = refl
-told_on (None ∷ h) o = told_on h o
-told_on (Some i ∷ h) o = ap (λ l. told_by i ∷ l) (told_on h o)
-
 told_short : (h : List (Option Inform)) → length (told h) ≤ length h
 told_short [] = omega arith
 told_short (None ∷ h) = let ih = told_short h in omega arith
 told_short (Some i ∷ h) = let ih = told_short h in omega arith
 
-module _ (h : List (Option Inform)) (i : ℕ) (d : Option Inform) (l : i < length h) where
-  pub told_none : get_or h i d ≡ None → told (take (i + 1) h) ≡ told (take i h)
-  told_none e = ap told (take_more h i d l) ∙ told_on (take i h) (get_or h i d) ∙ ap (λ o. told (take i h) ++ told (o ∷ [])) e ∙ append-nil (told (take i h))
+-- an option yields its value, once
+pub option_yields : (o : Option Inform) {s : _} → option_iter_item s ≡ o → option_iter_done s ≡ false → YieldsList (option_iter_steps {A = Inform}) (λ y. y.now) s (option_to_list o)
+option_yields o {s} e d =
+    subst (λ xs. YieldsList option_iter_steps (λ y. y.now) s xs) (grind arith)
+    (YieldsList-from_shown option_iter_steps (λ y. y.now) (λ t. cond (option_iter_done t) [] (option_to_list (option_iter_item t))) (λ t u h. grind arith) (λ t x u h. grind arith) s)
 
-  pub told_some : (w : Inform) → get_or h i d ≡ Some w → told (take (i + 1) h) ≡ told (take i h) ++ told_by w ∷ []
-  told_some w e = ap told (take_more h i d l) ∙ told_on (take i h) (get_or h i d) ∙ ap (λ o. told (take i h) ++ told (o ∷ [])) e
+told_flat : (h : List (Option Inform)) → map told_by (flat_map option_to_list h) ≡ told h
+told_flat [] = refl
+told_flat (None ∷ h) = told_flat h
+told_flat (Some i ∷ h) = ap (λ l. told_by i ∷ l) (told_flat h)
 
-  pub told_room : length h ≤ 10 → length (told (take i h)) < 10
-  told_room ten =
-      let a = told_short (take i h) in
-      let b = length-take-le i h (omega arith) in
-      omega arith
+-- the informs of a row that are still to come, behind the words that are gathered
+pub record ToCome {S : Type 0} (steps : S → Option (Bor Inform) → S → Type 0) (words : List Told) (h : List (Option Inform)) (s : S) : Type 0 where
+  pub left : List Inform
+  pub all : words ++ map told_by left ≡ told h
+  pub runs : YieldsList steps (λ y. y.now) s left
+
+module _ {S : Type 0} (steps : S → Option (Bor Inform) → S → Type 0) (words : List Told) (h : List (Option Inform)) (s : S) where
+  pub all_come : words ≡ [] → YieldsList steps (λ y. y.now) s (flat_map option_to_list h) → ToCome steps words h s
+  all_come e y = record { left = flat_map option_to_list h; all = ap (λ ws. ws ++ map told_by (flat_map option_to_list h)) e ∙ told_flat h; runs = y }
+
+module _ {S : Type 0} (steps : S → Option (Bor Inform) → S → Type 0) (words : List Told) (h : List (Option Inform)) (s t : S) where
+  pub come_end : ToCome steps words h s → steps s None t → words ≡ told h
+  come_end c p = go c.left c.all c.runs.runs
+    where
+      go : (left : List Inform) → words ++ map told_by left ≡ told h → AlwaysYields steps (λ y. y.now) s left → words ≡ told h
+      go [] e y = sym (append-nil words) ∙ e
+      go (i ∷ left) e y = absurd (y.0 t p)
+
+  module _ (x : Bor Inform) (p : steps s (Some x) t) where
+    pub come_room : ToCome steps words h s → length words < length h
+    come_room c = go c.left c.all c.runs.runs
+      where
+        go : (left : List Inform) → words ++ map told_by left ≡ told h → AlwaysYields steps (λ y. y.now) s left → length words < length h
+        go [] e y = absurd (y x t p)
+        go (i ∷ left) e y =
+            let both = length-append words (told_by i ∷ map told_by left) in
+            let all = ap length e in
+            let few = told_short h in
+            omega arith
+
+    pub come_next : (words' : List Told) → words' ≡ words ++ told_by x.now ∷ [] → ToCome steps words h s → ToCome steps words' h t
+    come_next words' is c = go c.left c.all c.runs.runs
+      where
+        go : (left : List Inform) → words ++ map told_by left ≡ told h → AlwaysYields steps (λ y. y.now) s left → ToCome steps words' h t
+        go [] e y = absurd (y x t p)
+        go (i ∷ left) e y =
+            let n = y.1 x t p in
+            record {
+              left = left;
+              all =
+                  ap (λ ws. ws ++ map told_by left) is
+                  ∙ append_assoc words (told_by x.now ∷ []) (map told_by left)
+                  ∙ ap (λ j. words ++ (told_by j ∷ map told_by left)) n.0
+                  ∙ e;
+              runs = record { runs = n.1 };
+            }
 
 -- the largest count of a row's words
 largest : (n : ℕ) (all h : List (Option Inform)) (a : ℕ) → placed n all ≡ true → fold (λ m x. max m (shared signed agrees (told all) x)) a (told h) ≡ max a (most_from all h)

@@ -34,10 +34,8 @@ fn gathered(heard: &[Option<Inform>; 10]) -> ArrayVec<Told, 10>
     ensures { result.items ≡ told heard.now }
 {
     let mut words = ArrayVec::new();
-    for place in heard {
-        if let Some(inform) = place {
-            words.push(Told { inform: *inform });
-        }
+    for inform in heard.iter().flatten() {
+        words.push(Told { inform: *inform });
     }
     words
 }

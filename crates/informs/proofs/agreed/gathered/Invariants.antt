@@ -1,6 +1,5 @@
-use Rattle.std.proofs.Common.{◌≡◌, take}
-use Rattle.informs.specs.Agreed.{told}
+use Rattle.informs.proofs.Rows.{ToCome}
 use Rattle.informs.proofs.agreed.gathered.Given as goal
 
-abbrev pub invariant-loop-place : goal.invariant-loop-place
-invariant-loop-place l = l.words.items ≡ told (take l.place-index l.heard)
+abbrev pub invariant-loop-inform : goal.invariant-loop-inform
+invariant-loop-inform l = ToCome (goal.iterator-loop-inform).next_gives l.words.items l.heard l.inform-iterator
