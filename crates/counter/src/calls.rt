@@ -8,7 +8,7 @@ ghost use Rattle.counter.specs.Hearing.{taken, hearing, SoundIn};
 ghost use Rattle.counter.specs.Closing.{served, closing, writing_off, most_in, Released};
 
 use crate::parts::{Asked, Ticket};
-use crate::sealing::{COVERED_SIZE, sealed};
+use crate::sealing::sealed;
 use crate::state::Counter;
 use informs::agreed::{Release, agreed, most};
 use outbox::sending::write;
@@ -18,13 +18,13 @@ use quorum::figures::Ring;
 use quorum::limits::{FIRST_CLIENT, FIRST_SEQUENCE};
 use quorum::refusal::Fault;
 use records::arrivals::{Inform, Record};
-use records::places::SEAL_SIZE;
+use records::places::{REQUEST_SEAL, SEAL_SIZE};
 use records::request::Request;
 use seal_box::SealBox;
 use seals::admitting::admit_inform;
 
 // the bytes of a request
-const REQUEST_SIZE: usize = COVERED_SIZE + SEAL_SIZE;
+const REQUEST_SIZE: usize = REQUEST_SEAL + SEAL_SIZE;
 
 // where an inform holds its proposal, the view first
 const VIEW_PLACE: usize = 3;
