@@ -2,7 +2,7 @@
 use Rattle.std.proofs.Common.{◌≡◌, ℕ, ◌+◌, ◌<◌, ◌≤◌, List, [], ◌++◌, length, get_or, take, drop, IsErrAnd, Ok, Err, Result, sym, refl, ap, ◌∙◌, subst}
 use Rattle.std.specs.List.{flat_map, between}
 use Rattle.std.proofs.lemmas.Result.{err_from_is_err_and}
-use Rattle.std.proofs.lemmas.List.{take_more, take_all, flat_map_more, take-append-drop}
+use Rattle.std.proofs.lemmas.List.{take_more, flat_map_more, take-append-drop}
 use Rattle.std.proofs.lemmas.List.Concat.{flat_map-append}
 use Rattle.quorum.specs.declared.refusal.Fault.{Fault}
 use Rattle.outbox.specs.declared.pen.Pen.{Pen}
@@ -65,6 +65,3 @@ module _ {X : Type 0} (f : X → List ℕ) (xs : List X) where
 
   pub each_fault : {p q r : Pen} {i : ℕ} {u : Unit {0}} {e : Fault} {a : Result (Unit {0}) Fault} (x : X) → Wrote p q (flat_map f (take i xs)) (Ok u) → i < length xs → x ≡ get_or xs i x → Wrote q r (f x) (Err e) → IsErrAnd a (λ g. g ≡ e) → Wrote p r (flat_map f xs) a
   each_fault {p} {q} {r} {i} {u} {e} {a} x got h is w passed = wrote_as (rest i x h is) (wrote_fault _ (wrote_then got w) passed)
-
-  pub each_all : {p q : Pen} {i : ℕ} {a : Result (Unit {0}) Fault} → Wrote p q (flat_map f (take i xs)) a → length xs ≤ i → Wrote p q (flat_map f xs) a
-  each_all {p} {q} {i} {a} got h = wrote_as (ap (flat_map f) (take_all i xs h)) got

@@ -1,9 +1,6 @@
 -- Each turn puts one more; a fault at one is the fault of all.
-use Rattle.outbox.proofs.Pens.{wrote_none, each_more, each_fault, each_all}
+use Rattle.outbox.proofs.Pens.{each_more, each_fault}
 use Rattle.outbox.proofs.pen.Pen.each.Goals as goal
-
-pub loop-part-init : goal.loop-part-init
-loop-part-init g c = wrote_none c.args.self.now
 
 pub loop-part-preserved : goal.loop-part-preserved
 loop-part-preserved g c =
@@ -12,6 +9,3 @@ loop-part-preserved g c =
 pub returns-in_err-put : goal.returns-in_err-put
 returns-in_err-put g c =
     each_fault g.T.Put.bytes c.args.parts.now _ c.loop-part.invariant c.loop-part-test.true c.part-item.is c.in_err-put.ensures c.from_residual.ensures.1
-
-pub returns : goal.returns
-returns g c = each_all g.T.Put.bytes c.args.parts.now c.loop-part.invariant c.loop-part-test.false
