@@ -22,14 +22,14 @@ use std::io::{BufRead, BufReader};
 
 // Where lines are answered, and what was told so far: the number of stations, and the signers' keys.
 #[derive(Drop)]
-struct Session<'a> {
+struct Console<'a> {
     rt: &'a HostRuntime,
     // 0 until it is told: a record is then refused as in a ring of 0, and the answer says 0
     stations: usize,
     keys: Keys,
 }
 
-impl Session<'_> {
+impl Console<'_> {
     fn take(&mut self, told: RingLine) -> Result<(), Fault> {
         match told {
             RingLine::Stations(stations) => self.stations = stations,
@@ -88,7 +88,7 @@ impl Session<'_> {
 }
 
 fn run(rt: &HostRuntime) -> anyhow::Result<()> {
-    let mut session = Session {
+    let mut console = Console {
         rt,
         stations: 0,
         keys: Keys::new(),
@@ -96,11 +96,11 @@ fn run(rt: &HostRuntime) -> anyhow::Result<()> {
     for line in BufReader::new(rt.alloc(), rt.stdin())?.lines(rt.alloc()) {
         let line = line?;
         match RingLine::try_from(line.as_str()) {
-            Ok(told) => match session.take(told) {
+            Ok(told) => match console.take(told) {
                 Ok(()) => println!(rt; "{told}")?,
                 Err(fault) => println!(rt; "refused {fault}")?,
             },
-            Err(NoRingLine::Other) => session.record_line(line.as_str())?,
+            Err(NoRingLine::Other) => console.record_line(line.as_str())?,
             Err(none) => println!(rt; "{none}")?,
         }
     }

@@ -38,12 +38,12 @@ fn client_of(text: &str) -> Option<(u16, u32)> {
 
 // Where lines are answered, and what was told before a client starts.
 #[derive(Drop)]
-struct Session<'a> {
+struct Console<'a> {
     rt: &'a HostRuntime,
     setup: Setup,
 }
 
-impl Session<'_> {
+impl Console<'_> {
     fn refused(&self, fault: Fault) -> io::Result<()> {
         println!(self.rt; "refused {fault}")
     }
@@ -174,7 +174,7 @@ impl Session<'_> {
 }
 
 fn run(rt: &HostRuntime) -> anyhow::Result<()> {
-    let mut session = Session {
+    let mut console = Console {
         rt,
         setup: Setup::new(rt.alloc()),
     };
@@ -183,10 +183,10 @@ fn run(rt: &HostRuntime) -> anyhow::Result<()> {
         let line = line?;
         match RingLine::try_from(line.as_str()) {
             Ok(told) => {
-                session.setup.take(told)?;
+                console.setup.take(told)?;
                 println!(rt; "{told}")?;
             }
-            Err(NoRingLine::Other) => bench = session.step(bench, line.as_str())?,
+            Err(NoRingLine::Other) => bench = console.step(bench, line.as_str())?,
             Err(none) => println!(rt; "{none}")?,
         }
     }
