@@ -56,17 +56,16 @@ fn admitted(stations: u16, own: u16, bytes: &[u8]) -> Result<(), Fault> {
     Ok(())
 }
 
-// The next part of a case, and what stands behind it.
-fn parted(text: &str) -> anyhow::Result<(&str, &str)> {
-    text.split_once(' ').context("a case with too few parts")
-}
-
 // Does the framing reader say of a case what stands at its end?
 fn framing_agrees(heap: Global, case: &str) -> anyhow::Result<bool> {
-    let (stations, rest) = parted(case)?;
-    let (text, expected) = parted(rest)?;
+    let mut parts = case.splitn(3, ' ');
+    let (Some(stations), Some(text), Some(expected)) = (parts.next(), parts.next(), parts.next())
+    else {
+        return Err(anyhow!("a case without three parts"));
+    };
+    let stations = stations.parse()?;
     let bytes = bytes_of(heap, text)?;
-    let said = match frame(stations.parse()?, &bytes) {
+    let said = match frame(stations, &bytes) {
         Ok(record) => {
             let length = record.len();
             format!(in heap; "ok {length}")?
@@ -78,11 +77,14 @@ fn framing_agrees(heap: Global, case: &str) -> anyhow::Result<bool> {
 
 // Does a station say of what arrives what stands at the end of the case?
 fn arrival_agrees(heap: Global, case: &str) -> anyhow::Result<bool> {
-    let (stations, rest) = parted(case)?;
-    let (own, rest) = parted(rest)?;
-    let (text, expected) = parted(rest)?;
+    let mut parts = case.splitn(4, ' ');
+    let (Some(stations), Some(own), Some(text)) = (parts.next(), parts.next(), parts.next()) else {
+        return Err(anyhow!("a case without four parts"));
+    };
+    let expected = parts.next().context("a case without an answer")?;
+    let (stations, own) = (stations.parse()?, own.parse()?);
     let bytes = bytes_of(heap, text)?;
-    let said = match admitted(stations.parse()?, own.parse()?, &bytes) {
+    let said = match admitted(stations, own, &bytes) {
         Ok(()) => String::from_str(heap, "passes")?,
         Err(fault) => format!(in heap; "refused {fault}")?,
     };
