@@ -1,6 +1,7 @@
 // The fields are tried from left to right; the first that breaks the chain is the place of the refusal.
 ghost use Rattle.std.specs.Prelude.{◌≡◌, ◌+◌, ◌≤◌, Ok};
 ghost use Rattle.quorum.specs.Rings.{stations_of};
+ghost use Rattle.records.specs.Lists.{listed};
 ghost use Rattle.records.specs.Places.{prepared_place};
 ghost use Rattle.records.specs.Reading.{◌then◌};
 ghost use Rattle.records.specs.Chain.{rounds_link, commit_link, next_round, state_link, member_link, states_link, chain_of};
@@ -37,7 +38,7 @@ fn next_round(commit: &Option<Certificate>) -> u64
 
 // Prepared certificates: no view above the view state's, and rounds that follow one another.
 fn rounds_link(placed: PlacedState<'_>) -> Result<(), Fault>
-    ensures { result ≡ (rounds_link (stations_of placed.entry.ring) placed.entry.state.now.view (prepared_place (stations_of placed.entry.ring) placed.entry.at placed.entry.state.now) (next_round placed.entry.state.now.commit) placed.entry.state.now.prepared.items then (λ _. Ok tt)) }
+    ensures { result ≡ (rounds_link (stations_of placed.entry.ring) placed.entry.state.now.view (prepared_place (stations_of placed.entry.ring) placed.entry.at placed.entry.state.now) (next_round placed.entry.state.now.commit) (listed placed.entry.state.now.prepared) then (λ _. Ok tt)) }
 {
     let size = certificate_size(placed.ring);
     let first = placed.places().prepared;
@@ -78,7 +79,7 @@ fn member_link(view: u32, low: u16, placed: PlacedState<'_>) -> Result<(), Fault
 
 // The view states of a new view, with rising senders.
 fn states_link(ring: Ring, view: &NewView) -> Result<(), Fault>
-    ensures { result ≡ (states_link (stations_of ring) view.now.view 8 0 view.now.states.items then (λ _. Ok tt)) }
+    ensures { result ≡ (states_link (stations_of ring) view.now.view 8 0 (listed view.now.states) then (λ _. Ok tt)) }
 {
     let mut at = FIRST_STATE;
     let mut low = 0;

@@ -6,6 +6,7 @@ use Rattle.std.proofs.ByRecursion.{All-weaker, sum_by_le}
 use Rattle.std.proofs.lemmas.List.Concat.{length-flat_map}
 use Rattle.std.proofs.lemmas.List.Elements.{All-replicate, recursion_from_All}
 use Rattle.std.proofs.lemmas.List.Folds.{sum_by-replicate}
+use Rattle.records.specs.Lists.{listed}
 use Rattle.records.specs.Range.{Byte, RightRequest, RightCertificate, RightCommit, RightState, RightNewView}
 use Rattle.records.specs.Writing.{certificate_bytes, commit_bytes, prepared_bytes, state_bytes, new_view_body, body_bytes, arrival_bytes, record_bytes, check_commit_body, failure_body, states_bytes}
 use Rattle.records.specs.declared.request.Request.{Request}
@@ -39,25 +40,25 @@ pub state_most : (n : ℕ) → n ≤ 10 → (s : ViewState) → RightState n s �
 state_most n ten s h =
     let l = state_length s in
     let c = commit_most n ten s.commit h.commit_right in
-    let p = prepared_length s.prepared.items in
-    let each : AllByRecursion (λ c. length (certificate_bytes c) ≤ 96) s.prepared.items =
+    let p = prepared_length (listed s.prepared) in
+    let each : AllByRecursion (λ c. length (certificate_bytes c) ≤ 96) (listed s.prepared) =
     All-weaker (RightCertificate n) (λ c. length (certificate_bytes c) ≤ 96)
-    (λ c r. let k = certificate_length n c r in omega arith) s.prepared.items h.prepared_right in
-    let j = joined_most certificate_bytes 96 s.prepared.items each in
+    (λ c r. let k = certificate_length n c r in omega arith) (listed s.prepared) h.prepared_right in
+    let j = joined_most certificate_bytes 96 (listed s.prepared) each in
     let few = h.prepared_few in
     omega arith
 
-new_view_length : (v : NewView) → length (view_bytes v) ≡ 16 + length (flat_map state_bytes v.states.items)
+new_view_length : (v : NewView) → length (view_bytes v) ≡ 16 + length (flat_map state_bytes (listed v.states))
 unfolding record_bytes arrival_bytes body_bytes new_view_body check_commit_body failure_body states_bytes
 new_view_length v =
-    let body : List ℕ = view_body v.sender v.view v.states.items in
-    omega (arith, view_length v.sender v.view v.states.items, sealed_length body v.seal)
+    let body : List ℕ = view_body v.sender v.view (listed v.states) in
+    omega (arith, view_length v.sender v.view (listed v.states), sealed_length body v.seal)
 
 pub view_most : ViewMost
 view_most n low ten v h =
     let l = new_view_length v in
-    let each = All-weaker (RightState n) (λ s. length (state_bytes s) ≤ 881) (λ s r. state_most n ten s r) v.states.items h.states_right in
-    let j = joined_most state_bytes 881 v.states.items each in
+    let each = All-weaker (RightState n) (λ s. length (state_bytes s) ≤ 881) (λ s r. state_most n ten s r) (listed v.states) h.states_right in
+    let j = joined_most state_bytes 881 (listed v.states) each in
     let many = h.states_many in
     omega arith
 
@@ -76,12 +77,12 @@ big_state = record {
   sender = 0;
   view = 0;
   commit = Some big_certificate;
-  prepared = record { items = replicate 8 big_certificate };
+  prepared = record { items = replicate 8 big_certificate; len = 8 };
   seal = 0;
 }
 
 abbrev big_view : NewView
-big_view = record { sender = 0; view = 1; states = record { items = replicate 7 big_state }; seal = 0 }
+big_view = record { sender = 0; view = 1; states = record { items = replicate 7 big_state; len = 7 }; seal = 0 }
 
 -- it holds of each, where they are all one value
 all_same : {A : Type 0} (P : A → Type 0) (k : ℕ) (x : A) → P x → AllByRecursion P (replicate k x)
@@ -116,6 +117,7 @@ big_state_right =
       sender_fits = omega arith;
       view_high = omega arith;
       commit_right = c;
+      prepared_packed = refl;
       prepared_few = omega arith;
       prepared_right = all_same (RightCertificate 10) 8 big_certificate c;
       seal_fits = omega arith;
@@ -127,6 +129,7 @@ big_view_right =
       sender_fits = omega arith;
       view_low = omega arith;
       view_high = omega arith;
+      states_packed = refl;
       states_many = refl;
       states_right = all_same (RightState 10) 7 big_state s;
       seal_fits = omega arith;

@@ -4,10 +4,12 @@ use Rattle.std.proofs.Common.{◌≡◌, ℕ, ◌+◌, ◌<◌, ◌≤◌, eqb, 
 use Rattle.std.specs.List.{flat_map, AllByRecursion}
 use Rattle.std.proofs.lemmas.List.{append_assoc}
 use Rattle.std.proofs.lemmas.Bool.{eqb-true, eq-eqb}
+use Rattle.records.specs.Lists.{listed, filled}
+use Rattle.records.specs.Blanks.{blank_state}
+use Rattle.records.specs.declared.few.Few.{Few}
 use Rattle.quorum.specs.Figures.{quorum_of}
 use Rattle.records.specs.Numbers.{put}
-use Rattle.arrayvec.specs.ArrayVec.{ArrayVec}
-use Rattle.records.specs.Range.{Bytes, Fits, RightRequest, RightProposal, RightState, RightClaim, RightInform, RightArrival}
+use Rattle.records.specs.Range.{Packed, Bytes, Fits, RightRequest, RightProposal, RightState, RightClaim, RightInform, RightArrival}
 use Rattle.records.specs.Reading.{number_at, view_at, request_at, proposal_at, certificate_at, certificate_size, several, member_at, members_at, state_at, claim_in, check_commit_in, inform_in, failure_in, new_view_in, request_behind, inform_behind, arrival_behind, last_view}
 use Rattle.records.specs.Writing.{mark_bytes, head_bytes, request_bytes, proposal_bytes, seals_bytes, certificate_bytes, claim_bytes, state_body, state_bytes, new_view_body, body_bytes, inform_body, arrival_bytes, record_bytes, check_commit_body, failure_body, states_bytes}
 use Rattle.records.specs.declared.marks.Mark.{Mark}
@@ -32,7 +34,7 @@ use Rattle.codec.proofs.Marks.{mark_length, head_length, head_join, head_split}
 use Rattle.codec.proofs.Requests as requests
 use Rattle.codec.proofs.Requests.{request_length, proposal_length, proposal_back, proposal_on}
 use Rattle.codec.proofs.Certificates.{certificate_length, certificate_back, certificate_on}
-use Rattle.codec.proofs.States.{state_back, state_on, member_back, member_on}
+use Rattle.codec.proofs.States.{listed_filled, state_back, state_on, member_back, member_on}
 
 pub claim_length : (m : Mark) (sender : ℕ) (p : Proposal) → RightProposal p → length (claim_bytes m sender p) ≡ 41
 unfolding claim_bytes
@@ -170,16 +172,25 @@ pub view_length : (sender view : ℕ) (ss : List ViewState) → length (view_bod
 view_length sender view ss = simp (length-append, head_length, put_length) (omega arith)
 
 -- the view states of a new view, in range
-abbrev RightMembers : ℕ → ℕ → ArrayVec ViewState → Type 0
-RightMembers n count states = (length states.items ≡ count) × AllByRecursion (RightState n) states.items
+abbrev RightMembers : ℕ → ℕ → Few ViewState 7 → Type 0
+RightMembers n count states =
+    Packed blank_state 7 states × (length (listed states) ≡ count) × AllByRecursion (RightState n) (listed states)
 
-members_back : (n : ℕ) → n ≤ 10 → (bs : List ℕ) → Bytes bs → (at count : ℕ) (states : ArrayVec ViewState) (end : ℕ) → at ≤ length bs → members_at n bs at count ≡ Ok (states, end) → Got bs at (λ states. flat_map state_bytes states.items) (RightMembers n count) (states, end)
+members_back : (n : ℕ) → n ≤ 10 → (bs : List ℕ) → Bytes bs → (at count : ℕ) (states : Few ViewState 7) (end : ℕ) → at ≤ length bs → members_at n bs at count ≡ Ok (states, end) → Got bs at (λ states. flat_map state_bytes (listed states)) (RightMembers n count) (states, end)
 members_back n ten bs all at count states end room e =
     then_by (several (member_at n bs) at count) _ e (λ ss read e₁.
     let r = several_back bs (member_at n bs) state_bytes (λ i. RightState n) (member_back n ten bs all) count at ss.0 ss.1 room read in
     let row = r.0 in
-    subst (Got bs at (λ states. flat_map state_bytes states.items) (RightMembers n count)) (ok_same e₁)
-    ((row.many, row_all (RightState n) count ss.0 row), r.1, r.2))
+    let same = listed_filled blank_state 7 ss.0 in
+    subst (Got bs at (λ states. flat_map state_bytes (listed states)) (RightMembers n count)) (ok_same e₁) (
+      (
+        ap (filled blank_state 7) (sym same),
+        ap length same ∙ row.many,
+        subst (AllByRecursion (RightState n)) (sym same) (row_all (RightState n) count ss.0 row),
+      ),
+      stands_same (ap (flat_map state_bytes) (sym same)) r.1,
+      r.2 ∙ ap (λ l. at + length (flat_map state_bytes l)) (sym same),
+    ))
 
 new_view_back : (n : ℕ) → n ≤ 10 → (bs : List ℕ) → Bytes bs → (v : NewView) (end : ℕ) → Stands bs 0 (mark_bytes mark.NewView) → new_view_in n bs ≡ Ok (v, end) → Got bs 0 arrival_bytes (RightArrival n) (arrival.NewView v, end)
 unfolding arrival_bytes body_bytes new_view_body check_commit_body failure_body states_bytes
@@ -200,21 +211,22 @@ new_view_back n ten bs all v end t e =
     subst (λ got. Got bs 0 arrival_bytes (RightArrival n) (arrival.NewView got.0, got.1)) (ok_same e₆)
     (made sender view count states.0 seal states.1 a b (eqb-true count (quorum_of n) good) there r f)))))))
   where
-    made : (sender view count : ℕ) (states : ArrayVec ViewState) (seal far : ℕ) → Fits 1 sender × Stands bs 2 (put 1 sender) → (1 ≤ view) × (view ≤ last_view) × Stands bs 3 (put 4 view) → count ≡ quorum_of n → Stands bs 7 (put 1 count) → Got bs 8 (λ states. flat_map state_bytes states.items) (RightMembers n count) (states, far) → Fits 8 seal × Stands bs far (put 8 seal) → Got bs 0 arrival_bytes (RightArrival n) (arrival.NewView (record { sender = sender; view = view; states = states; seal = seal }), far + 8)
+    made : (sender view count : ℕ) (states : Few ViewState 7) (seal far : ℕ) → Fits 1 sender × Stands bs 2 (put 1 sender) → (1 ≤ view) × (view ≤ last_view) × Stands bs 3 (put 4 view) → count ≡ quorum_of n → Stands bs 7 (put 1 count) → Got bs 8 (λ states. flat_map state_bytes (listed states)) (RightMembers n count) (states, far) → Fits 8 seal × Stands bs far (put 8 seal) → Got bs 0 arrival_bytes (RightArrival n) (arrival.NewView (record { sender = sender; view = view; states = states; seal = seal }), far + 8)
     made sender view count states seal far a b q c r f =
-        let many : length states.items ≡ count = r.0.0 in
+        let many : length (listed states) ≡ count = r.0.1 in
         let front = stands_same (ap (put 1) (sym many)) c in
-        let body : Stands bs 0 (view_body sender view states.items) =
-        head_join mark.NewView sender t a.1 (put_join 4 view b.2 (put_join 1 (length states.items) front r.1 refl) refl) in
-        let l = view_length sender view states.items in
-        let z = sealed_length (view_body sender view states.items) seal in
+        let body : Stands bs 0 (view_body sender view (listed states)) =
+        head_join mark.NewView sender t a.1 (put_join 4 view b.2 (put_join 1 (length (listed states)) front r.1 refl) refl) in
+        let l = view_length sender view (listed states) in
+        let z = sealed_length (view_body sender view (listed states)) seal in
         let far-is = r.2 in (
           record {
             sender_fits = a.0;
             view_low = b.0;
             view_high = b.1;
+            states_packed = r.0.0;
             states_many = many ∙ q;
-            states_right = r.0.1;
+            states_right = r.0.2;
             seal_fits = f.0;
           },
           stands_join body f.1 (omega arith),
@@ -223,30 +235,31 @@ new_view_back n ten bs all v end t e =
 
 new_view_on : (n : ℕ) → n ≤ 10 → (bs : List ℕ) (v : NewView) → RightArrival n (arrival.NewView v) → Stands bs 0 (arrival_bytes (arrival.NewView v)) → Stands bs 0 (mark_bytes mark.NewView) × (arrival_behind n bs mark.NewView ≡ Ok (arrival.NewView v, length (arrival_bytes (arrival.NewView v))))
 unfolding arrival_bytes body_bytes new_view_body check_commit_body failure_body states_bytes
-new_view_on n ten bs v h s =
-    let ss : List ViewState = v.states.items in
-    let l = view_length v.sender v.view ss in
-    let z = sealed_length (view_body v.sender v.view ss) v.seal in
-    let far : ℕ = 8 + length (flat_map state_bytes ss) in
-    let end : far + 8 ≡ length (view_body v.sender v.view ss ++ put 8 v.seal) = omega arith in
-    let rest : List ℕ = put 1 (length ss) ++ flat_map state_bytes ss in
-    let parts = stands_split (view_body v.sender v.view ss) (put 8 v.seal) far (omega arith) s in
-    let t = head_split mark.NewView v.sender (put 4 v.view ++ rest) parts.0 in
-    let view = put_split 4 v.view rest 7 refl t.2 in
-    let states = put_split 1 (length ss) (flat_map state_bytes ss) 8 refl view.1 in
-    let row = all_row (RightState n) (length ss) ss refl h.states_right in
-    let many = h.states_many in
-    let few : length ss < 256 = omega arith in
-    let members : members_at n bs 8 (length ss) ≡ Ok (v.states, far) =
-    then_on _ (several_on bs (member_at n bs) state_bytes (λ i. RightState n) (member_on n ten bs) (length ss) 8 ss row states.1) refl in
-    let read : new_view_in n bs ≡ Ok (v, far + 8) =
-    then_on _ (number_on 1 bs 2 v.sender h.sender_fits t.1)
-    (then_on _ (view_on 1 last_view bs 3 v.view h.view_low h.view_high (omega arith) view.0)
-    (then_on _ (number_on 1 bs 7 (length ss) few states.0)
-    (check_on 7 (eq-eqb (length ss) (quorum_of n) h.states_many)
-    (then_on _ members
-    (then_on _ (number_on 8 bs far v.seal h.seal_fits parts.1) refl))))) in
-    (t.0, then_on _ read (ap (λ k. Ok (arrival.NewView v, k)) end))
+new_view_on n ten bs v h s = go (listed v.states) h.states_packed h.states_many h.states_right s
+  where
+    go : (ss : List ViewState) → v.states ≡ filled blank_state 7 ss → length ss ≡ quorum_of n → AllByRecursion (RightState n) ss → Stands bs 0 (view_body v.sender v.view ss ++ put 8 v.seal) → Stands bs 0 (mark_bytes mark.NewView) × (arrival_behind n bs mark.NewView ≡ Ok (arrival.NewView v, length (view_body v.sender v.view ss ++ put 8 v.seal)))
+    go ss packed many right s =
+        let l = view_length v.sender v.view ss in
+        let z = sealed_length (view_body v.sender v.view ss) v.seal in
+        let far : ℕ = 8 + length (flat_map state_bytes ss) in
+        let end : far + 8 ≡ length (view_body v.sender v.view ss ++ put 8 v.seal) = omega arith in
+        let rest : List ℕ = put 1 (length ss) ++ flat_map state_bytes ss in
+        let parts = stands_split (view_body v.sender v.view ss) (put 8 v.seal) far (omega arith) s in
+        let t = head_split mark.NewView v.sender (put 4 v.view ++ rest) parts.0 in
+        let view = put_split 4 v.view rest 7 refl t.2 in
+        let states = put_split 1 (length ss) (flat_map state_bytes ss) 8 refl view.1 in
+        let row = all_row (RightState n) (length ss) ss refl right in
+        let few : length ss < 256 = omega arith in
+        let members : members_at n bs 8 (length ss) ≡ Ok (v.states, far) =
+        then_on _ (several_on bs (member_at n bs) state_bytes (λ i. RightState n) (member_on n ten bs) (length ss) 8 ss row states.1) (ap (λ l. Ok (l, far)) (sym packed)) in
+        let read : new_view_in n bs ≡ Ok (v, far + 8) =
+        then_on _ (number_on 1 bs 2 v.sender h.sender_fits t.1)
+        (then_on _ (view_on 1 last_view bs 3 v.view h.view_low h.view_high (omega arith) view.0)
+        (then_on _ (number_on 1 bs 7 (length ss) few states.0)
+        (check_on 7 (eq-eqb (length ss) (quorum_of n) many)
+        (then_on _ members
+        (then_on _ (number_on 8 bs far v.seal h.seal_fits parts.1) refl))))) in
+        (t.0, then_on _ read (ap (λ k. Ok (arrival.NewView v, k)) end))
 
 -- what stations send each other
 pub arrival_behind_back : (n : ℕ) → n ≤ 10 → (bs : List ℕ) → Bytes bs → (m : Mark) (a : Arrival) (end : ℕ) → Stands bs 0 (mark_bytes m) → arrival_behind n bs m ≡ Ok (a, end) → Got bs 0 arrival_bytes (RightArrival n) (a, end)

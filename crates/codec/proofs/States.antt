@@ -1,14 +1,17 @@
 -- View states: a commit certificate or none, and the prepared ones above it. Assumes nothing.
-use Rattle.std.proofs.Common.{◌≡◌, ℕ, zero, suc, ◌+◌, ◌≤◌, cond, eqb, leb, List, ◌++◌, length, Some, None, Ok, Option, Result, sym, refl, ap, subst, arith, length-append}
+use Rattle.std.proofs.Common.{◌≡◌, ℕ, zero, suc, ◌+◌, ◌-◌, ◌≤◌, cond, eqb, leb, List, ◌++◌, length, replicate, Some, None, Ok, Option, Result, sym, refl, ap, subst, arith, length-append}
 use Rattle.std.specs.List.{flat_map, AllByRecursion}
+use Rattle.std.proofs.lemmas.List.{take_at}
 use Rattle.std.proofs.lemmas.Bool.{eqb-true, leb-true, le-leb}
 use Rattle.quorum.specs.declared.refusal.Fault.{Fault}
 use Rattle.records.specs.Numbers.{put}
-use Rattle.arrayvec.specs.ArrayVec.{ArrayVec}
+use Rattle.records.specs.Lists.{listed, filled}
+use Rattle.records.specs.Blanks.{blank_certificate}
 use Rattle.records.specs.Marks.{letters}
-use Rattle.records.specs.Range.{Bytes, Fits, RightCertificate, RightCommit, RightState}
+use Rattle.records.specs.Range.{Bytes, Fits, Packed, RightCertificate, RightCommit, RightState}
 use Rattle.records.specs.Reading.{◌then◌, number_at, view_at, several, certificate_at, certificate_size, listed_at, commit_at, prepared_at, state_at, member_at}
 use Rattle.records.specs.Writing.{mark_bytes, certificate_bytes, commit_bytes, prepared_bytes, state_body, state_bytes}
+use Rattle.records.specs.declared.few.Few.{Few}
 use Rattle.records.specs.declared.marks.Mark.TheVariants as mark
 use Rattle.records.specs.declared.certificate.Certificate.{Certificate}
 use Rattle.records.specs.declared.arrivals.ViewState.{ViewState}
@@ -20,6 +23,10 @@ use Rattle.codec.proofs.Standing.{stands_join, stands_split, put_join, put_split
 use Rattle.codec.proofs.Steps.{ok_same, then_by, then_on, check_by, check_on, number_back, number_on, view_back, view_on}
 use Rattle.codec.proofs.Certificates.{certificate_length, certificate_back, certificate_on, listed_back, listed_on}
 use Rattle.codec.proofs.Rows.{Got, Back, On, several_back, several_on, row_all, all_row}
+
+-- the values of a list that was filled up are those that filled it
+pub listed_filled : {A : Type 0} (blank : A) (n : ℕ) (xs : List A) → listed (filled blank n xs) ≡ xs
+listed_filled blank n xs = take_at xs (replicate (n - length xs) blank) (length xs) refl
 
 pub commit_back : (n : ℕ) → n ≤ 10 → (bs : List ℕ) → Bytes bs → (at : ℕ) (o : Option Certificate) (end : ℕ) → commit_at n bs at ≡ Ok (o, end) → Got bs at commit_bytes (RightCommit n) (o, end)
 unfolding commit_bytes
@@ -53,13 +60,14 @@ commit_on n ten bs at (Some c) h s =
     (then_on _ (certificate_on n ten bs (at + 1) c h t.1) (ap (λ m. Ok (Some c, m)) end))
 
 -- the prepared certificates of a view state, in range
-abbrev pub RightPrepared : ℕ → ArrayVec Certificate → Type 0
-RightPrepared n few = (length few.items ≤ 8) × AllByRecursion (RightCertificate n) few.items
+abbrev pub RightPrepared : ℕ → Few Certificate 8 → Type 0
+RightPrepared n few =
+    Packed blank_certificate 8 few × (length (listed few) ≤ 8) × AllByRecursion (RightCertificate n) (listed few)
 
-abbrev pub few_bytes : ArrayVec Certificate → List ℕ
-few_bytes few = prepared_bytes few.items
+abbrev pub few_bytes : Few Certificate 8 → List ℕ
+few_bytes few = prepared_bytes (listed few)
 
-prepared_back : (n : ℕ) → n ≤ 10 → (bs : List ℕ) → Bytes bs → (at : ℕ) (few : ArrayVec Certificate) (end : ℕ) → prepared_at n bs at ≡ Ok (few, end) → Got bs at few_bytes (RightPrepared n) (few, end)
+prepared_back : (n : ℕ) → n ≤ 10 → (bs : List ℕ) → Bytes bs → (at : ℕ) (few : Few Certificate 8) (end : ℕ) → prepared_at n bs at ≡ Ok (few, end) → Got bs at few_bytes (RightPrepared n) (few, end)
 unfolding prepared_bytes
 prepared_back n ten bs all at few end e =
     then_by (number_at 1 bs at) _ e (λ count read e₁.
@@ -71,29 +79,35 @@ prepared_back n ten bs all at few end e =
     let r = several_back bs (listed_at n bs) certificate_bytes (λ i. RightCertificate n) (listed_back n ten bs all) count (at + 1) cs.0 cs.1 (omega (arith, s.inside)) read_all in
     let row = r.0 in
     let many : length cs.0 ≡ count = row.many in
+    let same = listed_filled blank_certificate 8 cs.0 in
     let l₁' = put_length 1 (length cs.0) in
     let m = length-append (put 1 (length cs.0)) (flat_map certificate_bytes cs.0) in
     let front = stands_same (ap (put 1) (sym many)) s in
     subst (Got bs at few_bytes (RightPrepared n)) (ok_same e₃) (
-      (omega (arith, leb-true count 8 low), row_all (RightCertificate n) count cs.0 row),
-      stands_join front r.1 (omega arith),
-      omega (arith, r.2),
+      (
+        ap (filled blank_certificate 8) (sym same),
+        subst (λ l. length l ≤ 8) (sym same) (omega (arith, leb-true count 8 low)),
+        subst (AllByRecursion (RightCertificate n)) (sym same) (row_all (RightCertificate n) count cs.0 row),
+      ),
+      stands_same (ap prepared_bytes (sym same)) (stands_join front r.1 (omega arith)),
+      subst (λ l. cs.1 ≡ at + length (prepared_bytes l)) (sym same) (omega (arith, r.2)),
     ))))
 
-prepared_on : (n : ℕ) → n ≤ 10 → (bs : List ℕ) (at : ℕ) (few : ArrayVec Certificate) → RightPrepared n few → Stands bs at (few_bytes few) → prepared_at n bs at ≡ Ok (few, at + length (few_bytes few))
+prepared_on : (n : ℕ) → n ≤ 10 → (bs : List ℕ) (at : ℕ) (few : Few Certificate 8) → RightPrepared n few → Stands bs at (few_bytes few) → prepared_at n bs at ≡ Ok (few, at + length (few_bytes few))
 unfolding prepared_bytes
-prepared_on n ten bs at few h s =
-    let cs : List Certificate = few.items in
-    let low : length cs ≤ 8 = h.0 in
-    let l₁ = put_length 1 (length cs) in
-    let m = length-append (put 1 (length cs)) (flat_map certificate_bytes cs) in
-    let t = put_split 1 (length cs) (flat_map certificate_bytes cs) (at + 1) refl s in
-    let end : at + 1 + length (flat_map certificate_bytes cs) ≡ at + length (put 1 (length cs) ++ flat_map certificate_bytes cs) = omega arith in
-    let row = all_row (RightCertificate n) (length cs) cs refl h.1 in
-    then_on _ (number_on 1 bs at (length cs) (omega arith) t.0)
-    (check_on at (le-leb (length cs) 8 low)
-    (then_on _ (several_on bs (listed_at n bs) certificate_bytes (λ i. RightCertificate n) (listed_on n ten bs) (length cs) (at + 1) cs row t.1)
-    (ap (λ k. Ok (few, k)) end)))
+prepared_on n ten bs at few h s = go (listed few) h.0 h.1 h.2 s
+  where
+    go : (cs : List Certificate) → few ≡ filled blank_certificate 8 cs → length cs ≤ 8 → AllByRecursion (RightCertificate n) cs → Stands bs at (prepared_bytes cs) → prepared_at n bs at ≡ Ok (few, at + length (prepared_bytes cs))
+    go cs packed low right s =
+        let l₁ = put_length 1 (length cs) in
+        let m = length-append (put 1 (length cs)) (flat_map certificate_bytes cs) in
+        let t = put_split 1 (length cs) (flat_map certificate_bytes cs) (at + 1) refl s in
+        let end : at + 1 + length (flat_map certificate_bytes cs) ≡ at + length (put 1 (length cs) ++ flat_map certificate_bytes cs) = omega arith in
+        let row = all_row (RightCertificate n) (length cs) cs refl right in
+        then_on _ (number_on 1 bs at (length cs) (omega arith) t.0)
+        (check_on at (le-leb (length cs) 8 low)
+        (then_on _ (several_on bs (listed_at n bs) certificate_bytes (λ i. RightCertificate n) (listed_on n ten bs) (length cs) (at + 1) cs row t.1)
+        (cc)))
 
 -- what a view state's seal covers, and the whole of it
 body_length : (s : ViewState) → length (state_body s) ≡ 7 + length (commit_bytes s.commit) + length (few_bytes s.prepared)
@@ -130,8 +144,9 @@ state_back n ten bs all at s end e =
             sender_fits = a.0;
             view_high = b.1;
             commit_right = c.0;
-            prepared_few = d.0.0;
-            prepared_right = d.0.1;
+            prepared_packed = d.0.0;
+            prepared_few = d.0.1;
+            prepared_right = d.0.2;
             seal_fits = f.0;
           },
           stands_join (head_join mark.ViewState s.sender t a.1 rest) f.1 (omega (arith, body_length s, c.2, d.2)),
@@ -154,7 +169,7 @@ state_on n ten bs at s h st =
     (then_on _ (number_on 1 bs (at + 2) s.sender h.sender_fits t.1)
     (then_on _ (view_on 0 999999 bs (at + 3) s.view (omega arith) h.view_high (omega arith) view.0)
     (then_on _ (commit_on n ten bs (at + 7) s.commit h.commit_right rest.0)
-    (then_on _ (prepared_on n ten bs mid s.prepared (h.prepared_few, h.prepared_right) rest.1)
+    (then_on _ (prepared_on n ten bs mid s.prepared (h.prepared_packed, h.prepared_few, h.prepared_right) rest.1)
     (then_on _ (number_on 8 bs far s.seal h.seal_fits whole.1)
     (ap (λ k. Ok (s, k)) end))))))
 

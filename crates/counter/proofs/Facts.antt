@@ -110,6 +110,7 @@ posted r before after answer e b s =
     let fits : used + length bytes ≤ size = omega arith in
     record {
       same = s.same;
+      long = s.long;
       posted = (
         s.sent.filled ∙ cond-true (leb (used + length bytes) size) (used + length bytes) used (le-leb (used + length bytes) size fits) ∙ end,
         subst (λ k. take k after.memory.now ≡ take used before.memory.now ++ bytes) end (s.sent.added fits),

@@ -53,7 +53,8 @@ Posted before after used used' (Err f) = (used' ≡ used) × (take used after �
 Posted before after used used' (Ok r) =
     (used' ≡ used + 32) × (take (used + 32) after ≡ take used before ++ record_bytes (rec.Request r))
 
--- a request posted into a tray, whose memory is still the memory that was lent
+-- a request posted into a tray, whose memory is still the memory that was lent, and as long
 pub record PostedInto (before after : Tray) (answer : Result Request Fault) : Type 0 where
   pub same : after.memory.ghost_name ≡ before.memory.ghost_name
+  pub long : length after.memory.now ≡ length before.memory.now
   pub posted : Posted before.memory.now after.memory.now before.fill.used after.fill.used answer

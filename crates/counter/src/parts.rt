@@ -27,7 +27,7 @@ impl Ticket {
 }
 
 // The request that is open, and each station's latest inform about it.
-#[derive(Drop)]
+#[derive(Clone, Copy)]
 pub struct Asked {
     pub(crate) request: Request,
     pub(crate) heard: [Option<Inform>; 10],

@@ -1,2 +1,4 @@
 mod Rows
+mod Pushed
+mod Most
 pub mod Executions

@@ -1,12 +1,13 @@
 // What a quorum of stations tells a client alike. The client keeps one place for each station's latest inform.
 ghost use Rattle.std.specs.Prelude.{◌≡◌, ◌≤◌, true, length};
 ghost use Rattle.quorum.specs.Rings.{stations_of};
+ghost use Rattle.records.specs.Lists.{listed};
 ghost use Rattle.informs.specs.Agreed.{told, placed, said_by, agreed_by, most_alike};
 
 use crate::alike::Told;
-use arrayvec::ArrayVec;
 use quorum::figures::Ring;
 use records::arrivals::Inform;
+use records::few::Few;
 use tally::{count, tally};
 
 // What a client may rely on: where its request stands, and its result.
@@ -30,10 +31,10 @@ impl From<&Inform> for Release {
 }
 
 // The informs that are there, by rising station.
-fn gathered(heard: &[Option<Inform>; 10]) -> ArrayVec<Told, 10>
-    ensures { result.items ≡ told heard.now }
+fn gathered(heard: &[Option<Inform>; 10]) -> Few<Told, 10>
+    ensures { listed result ≡ told heard.now }
 {
-    let mut words = ArrayVec::new();
+    let mut words = Few::new(Told::default());
     for inform in heard.iter().flatten() {
         words.push(Told { inform: *inform });
     }
@@ -57,6 +58,12 @@ pub fn most(heard: &[Option<Inform>; 10]) -> u8
 {
     let informs = gathered(heard);
     let words = informs.as_slice();
-    let counts = words.iter().map(|word| count(words, word));
-    counts.max().unwrap_or(0) as u8
+    let mut most = 0;
+    for word in words {
+        // no more can be alike than there are
+        if most < words.len() {
+            most = most.max(count(words, word));
+        }
+    }
+    most as u8
 }

@@ -41,11 +41,11 @@ impl Console<'_> {
     // A record that is readable and keeps the chain rule.
     fn read(&self, bytes: &[u8]) -> Result<Record, Fault> {
         let ring = Ring::new(self.stations)?;
-        let message = read_record(ring, bytes)?;
-        if let Record::Arrival(arrival) = &message {
+        let message = read_record(ring, bytes);
+        if let Ok(Record::Arrival(arrival)) = &message {
             check_chain(ring, arrival)?;
         }
-        Ok(message)
+        message
     }
 
     // What stands at the place of a refusal: the next bytes, at most eight, or the input's end.

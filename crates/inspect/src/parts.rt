@@ -85,14 +85,14 @@ impl Page<'_> {
         self.sender(state.sender)?;
         self.view(state.view)?;
         self.certificates("commits", Support::Committed, state.commit.as_slice())?;
-        self.certificates("prepared", Support::Prepared, &state.prepared)?;
+        self.certificates("prepared", Support::Prepared, state.prepared.as_slice())?;
         self.seal(u16::from(state.sender), Said::Leaves(state), state.seal)
     }
 
     fn new_view(&mut self, view: &NewView) -> io::Result<()> {
         self.sender(view.sender)?;
         self.view(view.view)?;
-        self.field("view states", view.states.len(), 1)?;
+        self.field("view states", view.states.as_slice().len(), 1)?;
         for state in view.states.as_slice() {
             self.open("VS ViewState")?;
             self.view_state(state)?;

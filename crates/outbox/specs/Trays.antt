@@ -33,9 +33,10 @@ abbrev pub ReadsBack : List ℕ → ℕ → ℕ → Record → Result (Unit {0})
 ReadsBack after used used' sent r =
     OnOk r ((n : ℕ) → 1 ≤ n → n ≤ 10 → RightRecord n sent → record_of n (between used used' after) ≡ Ok sent)
 
--- a record sent into a tray, whose memory is still the memory that was lent
+-- a record sent into a tray, whose memory is still the memory that was lent, and as long
 pub record SentInto (before after : Tray) (bytes : List ℕ) (answer : Result (Unit {0}) Fault) : Type 0 where
   pub same : after.memory.ghost_name ≡ before.memory.ghost_name
+  pub long : length after.memory.now ≡ length before.memory.now
   pub sent : Sent before.memory.now after.memory.now before.fill.used after.fill.used bytes answer
 
 -- what was sent reads back from the tray after, from the fill before to the fill after

@@ -2,8 +2,9 @@
 use Rattle.std.specs.Prelude.{◌≡◌, ℕ, ◌+◌, List, Ok, Err, Result, OnOk}
 use Rattle.std.specs.Borrow.{MutBor}
 use Rattle.quorum.specs.declared.refusal.Fault.{Fault}
-use Rattle.arrayvec.specs.ArrayVec.{ArrayVec}
+use Rattle.records.specs.Lists.{filled}
 use Rattle.records.specs.Reading.{◌then◌, several, mark_at, whole}
+use Rattle.records.specs.declared.few.Few.{Few}
 use Rattle.records.specs.declared.marks.Mark.{Mark}
 use Rattle.reader.specs.declared.cursor.Cursor.{Cursor}
 
@@ -39,9 +40,10 @@ abbrev pub ReadsBehind : {A : Type 0} → (MutBor Cursor → Mark → Result A F
 ReadsBehind {A} post behind =
     (p q : MutBor Cursor) (m : Mark) (r : Result A Fault) → post p m r q → ReadsOnFrom 2 (λ bs. behind bs m) p.now q.now r
 
--- so many values one after another, as a list of the code
-abbrev pub list_of : {A : Type 0} → (List ℕ → ℕ → Result (A × ℕ) Fault) → ℕ → List ℕ → ℕ → Result (ArrayVec A × ℕ) Fault
-list_of read count bs at = several (λ i. read bs) at count then (λ xs. Ok (record { items = xs.0 }, xs.1))
+-- so many values one after another, in a list of n places of which the others are blank
+abbrev pub list_of : {A : Type 0} → A → (n : ℕ) → (List ℕ → ℕ → Result (A × ℕ) Fault) → ℕ → List ℕ → ℕ → Result (Few A n × ℕ) Fault
+list_of blank n read count bs at =
+    several (λ i. read bs) at count then (λ xs. Ok (filled blank n xs.0, xs.1))
 
 -- the bytes as exactly one record, of which `behind` says what stands behind each mark
 abbrev pub whole_behind : {A : Type 0} → (List ℕ → Mark → Result (A × ℕ) Fault) → List ℕ → Result A Fault

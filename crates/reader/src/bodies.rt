@@ -95,7 +95,9 @@ impl<'a> Cursor<'a> {
         if count != ring.quorum() {
             return Err(Fault::Unreadable(at));
         }
-        let states = self.several(usize::from(count), |cursor| cursor.view_state(ring))?;
+        let states = self.several(ViewState::BLANK, usize::from(count), |cursor| {
+            cursor.view_state(ring)
+        })?;
         let seal = self.u64()?;
         Ok(NewView {
             sender,

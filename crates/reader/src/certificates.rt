@@ -5,11 +5,11 @@ ghost use Rattle.records.specs.Reading.{slot_at, seals_at, certificate_size, cer
 ghost use Rattle.reader.specs.Cursor.{Reads, ReadsOn};
 
 use crate::cursor::Cursor;
-use arrayvec::ArrayVec;
 use quorum::figures::Ring;
 use quorum::limits::MOST_PREPARED;
 use quorum::refusal::Fault;
 use records::certificate::Certificate;
+use records::few::Few;
 
 impl<'a> Cursor<'a> {
     // The seal of station i, where the mask shows it.
@@ -62,7 +62,7 @@ impl<'a> Cursor<'a> {
     }
 
     // None to eight certificates after their count.
-    pub(crate) fn prepared(&mut self, ring: Ring) -> Result<ArrayVec<Certificate, 8>, Fault>
+    pub(crate) fn prepared(&mut self, ring: Ring) -> Result<Few<Certificate, 8>, Fault>
         ensures { ReadsOn (prepared_at (stations_of ring)) self.old self.new result }
     {
         let at = self.place();
@@ -70,6 +70,8 @@ impl<'a> Cursor<'a> {
         if count > MOST_PREPARED {
             return Err(Fault::Unreadable(at));
         }
-        self.several(count, |cursor| cursor.certificate(ring))
+        self.several(Certificate::BLANK, count, |cursor| {
+            cursor.certificate(ring)
+        })
     }
 }

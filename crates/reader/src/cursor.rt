@@ -2,8 +2,8 @@
 ghost use Rattle.std.specs.Prelude.{ℕ, ◌≤◌, List, length, Result};
 ghost use Rattle.quorum.specs.declared.refusal.Fault.{Fault};
 
-use arrayvec::ArrayVec;
 use quorum::refusal::Fault;
+use records::few::Few;
 
 #[derive(Drop)]
 pub(crate) struct Cursor<'a> {
@@ -86,17 +86,18 @@ impl<'a> Cursor<'a> {
         Ok(u64::from_be_bytes(self.part()?))
     }
 
-    // So many values, one after another.
-    pub(crate) fn several<
-        T: Default + Drop,
-        F: Fn(&mut Cursor<'_>) -> Result<T, Fault>,
-        const N: usize,
-    >(&mut self, count: usize, read: F) -> Result<ArrayVec<T, N>, Fault>
+    // So many values, one after another; `blank` fills the places behind them.
+    pub(crate) fn several<T: Copy, F: Fn(&mut Cursor<'_>) -> Result<T, Fault>, const N: usize>(
+        &mut self,
+        blank: T,
+        count: usize,
+        read: F,
+    ) -> Result<Few<T, N>, Fault>
         requires callable { F.IsAlwaysCallable read }
         requires room { count ≤ N }
-        ensures { (item : List ℕ → ℕ → Result (T × ℕ) Fault) → AlwaysReadsOn (F.post read) item → ReadsOn (list_of item count) self.old self.new result }
+        ensures { (item : List ℕ → ℕ → Result (T × ℕ) Fault) → AlwaysReadsOn (F.post read) item → ReadsOn (list_of blank N item count) self.old self.new result }
     {
-        let mut values = ArrayVec::new();
+        let mut values = Few::new(blank);
         for _i in 0..count {
             values.push(read(self)?);
         }

@@ -1,10 +1,13 @@
--- A loop that reads several values, one after another: what holds after i of them, and one turn.
+-- A loop that reads several values, one after another, into the places of an array: what holds after i of them, and one turn.
 -- Assumes nothing.
-use Rattle.std.proofs.Common.{◌≡◌, ℕ, zero, suc, ◌+◌, ◌-◌, ◌<◌, List, [], ◌∷◌, ◌++◌, length, set, replicate, Ok, Err, Result, sym, refl, ap, ◌∙◌, subst, add-zero, add-suc, add-one, arith}
+use Rattle.std.proofs.Common.{◌≡◌, ℕ, zero, suc, ◌+◌, ◌-◌, ◌<◌, ltb, List, [], ◌∷◌, ◌++◌, length, set, replicate, Ok, Err, Result, sym, refl, ap, ◌∙◌, subst, ap₂, add-zero, add-suc, add-one, arith}
 use native.Mathlib.Nat.{sub-zero}
 use Rattle.std.proofs.lemmas.List.{append-nil, append_assoc, length_push, set_at}
 use Rattle.quorum.specs.declared.refusal.Fault.{Fault}
-use Rattle.records.specs.Reading.{several}
+use Rattle.std.proofs.lemmas.Bool.{cond-true, lt-ltb}
+use Rattle.records.specs.Lists.{filled, pushed}
+use Rattle.records.specs.Reading.{several, ◌then◌}
+use Rattle.records.specs.declared.few.Few.{Few}
 
 -- after i values: what was read, the array that holds it with blanks after it, and the place reached
 pub record Gathered {A : Type 0} (read : ℕ → ℕ → Result (A × ℕ) Fault) (blank : A) (n at i : ℕ) (items : List A) (place : ℕ) : Type 0 where
@@ -56,3 +59,22 @@ module _ {A : Type 0} {read : ℕ → ℕ → Result (A × ℕ) Fault} {blank : 
       let none : n - i ≡ 0 = omega arith in
       let whole : items ≡ g.values = g.are ∙ ap (λ k. g.values ++ replicate k blank) none ∙ append-nil g.values in
       subst (λ k. several read at k ≡ Ok (items, place)) e (g.got ∙ ap (λ l. Ok (l, place)) (sym whole))
+
+  -- a short list that was pushed to i times holds the values that were read
+  pub gathered_few : (k : ℕ) (few : Few A n) → few.items ≡ items → few.len ≡ i → i ≡ k → (◌then◌ {B = Few A n × ℕ} (several read at k) (λ cs. Ok (filled blank n cs.0, cs.1))) ≡ Ok (few, place)
+  gathered_few k few same long e =
+      let many : length g.values ≡ few.len = g.many ∙ sym long in
+      let items-are : few.items ≡ g.values ++ replicate (n - length g.values) blank = same ∙ g.are ∙ ap (λ m. g.values ++ replicate (n - m) blank) (sym g.many) in
+      let got : several read at k ≡ Ok (g.values, place) = subst (λ m. several read at m ≡ Ok (g.values, place)) e g.got in
+      let ok : List A → ℕ → Result (Few A n × ℕ) Fault = λ xs m. Ok (record { items = xs; len = m }, place) in
+      rw got (ap₂ ok (sym items-are) many)
+
+-- one value more in a short list
+pub gathered_push : {A : Type 0} {read : ℕ → ℕ → Result (A × ℕ) Fault} {blank : A} {n at i : ℕ} {few few' : Few A n} {place : ℕ} {x : A} {next : ℕ} → Gathered read blank n at i few.items place → few.len ≡ i → i < n → read i place ≡ Ok (x, next) → few' ≡ pushed n few x → Gathered read blank n at (i + 1) few'.items next × (few'.len ≡ i + 1)
+gathered_push {A} {read} {blank} {n} {at} {i} {few} {few'} {place} {x} {next} g long h r e =
+    let here : few.len < n = omega arith in
+    let e' : few' ≡ record { items = set few.items few.len x; len = few.len + 1 } = e ∙ cond-true (ltb few.len n) (record { items = set few.items few.len x; len = few.len + 1 }) few (lt-ltb few.len n here) in
+    let items-are : few'.items ≡ set few.items i x = ap (λ (f : Few A n). f.items) e' ∙ ap (λ k. set few.items k x) long in (
+      subst (λ l. Gathered read blank n at (i + 1) l next) (sym items-are) (gathered_more g h r),
+      ap (λ (f : Few A n). f.len) e' ∙ ap (λ k. k + 1) long,
+    )

@@ -4,6 +4,7 @@
 use Rattle.std.specs.Prelude.{ℕ, ◌+◌, Bool, cond, ◌&&◌, List, [], ◌∷◌, Some, None, Ok, Err, Option, Result, ◌==◌, nat_le, nat_lt}
 use Rattle.quorum.specs.declared.refusal.Fault.{Fault}
 use Rattle.quorum.specs.declared.refusal.Fault.TheVariants.{BrokenChain}
+use Rattle.records.specs.Lists.{listed}
 use Rattle.records.specs.Reading.{◌then◌, certificate_size}
 use Rattle.records.specs.declared.certificate.Certificate.{Certificate}
 use Rattle.records.specs.declared.arrivals.ViewState.{ViewState}
@@ -36,7 +37,7 @@ next_round (Some c) = c.proposal.round + 1
 abbrev pub state_link : ℕ → ℕ → ViewState → Result ℕ Fault
 state_link n at s =
     commit_link n s.view (at + 7) s.commit then (λ place.
-    rounds_link n s.view (place + 1) (next_round s.commit) s.prepared.items then (λ end.
+    rounds_link n s.view (place + 1) (next_round s.commit) (listed s.prepared) then (λ end.
     Ok (end + 8)))
 
 -- one view state of a new view of view w: its sender is a station from `low` on, and its view is the one before w
@@ -59,4 +60,4 @@ chain_of n (arrival.Prepare p) = Ok tt
 chain_of n (arrival.CheckCommit c) = Ok tt
 chain_of n (arrival.Failure f) = Ok tt
 chain_of n (arrival.ViewState s) = state_link n 0 s then (λ end. Ok tt)
-chain_of n (arrival.NewView v) = states_link n v.view 8 0 v.states.items then (λ end. Ok tt)
+chain_of n (arrival.NewView v) = states_link n v.view 8 0 (listed v.states) then (λ end. Ok tt)

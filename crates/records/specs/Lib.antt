@@ -1,4 +1,6 @@
 pub mod Numbers
+pub mod Lists
+pub mod Blanks
 pub mod Marks
 pub mod Writing
 pub mod Reading

@@ -1,5 +1,6 @@
 -- Where the parts of certificates and view states stand, each place counted from the first byte.
 use Rattle.std.specs.Prelude.{ℕ, ◌+◌, ◌*◌, length, Some, None, Option}
+use Rattle.records.specs.Lists.{listed}
 use Rattle.records.specs.Reading.{certificate_size}
 use Rattle.records.specs.declared.certificate.Certificate.{Certificate}
 use Rattle.records.specs.declared.arrivals.ViewState.{ViewState}
@@ -24,7 +25,7 @@ prepared_place n at s = after_commit n (at + 7) s.commit + 1
 
 -- its own seal
 abbrev pub state_seal_place : ℕ → ℕ → ViewState → ℕ
-state_seal_place n at s = prepared_place n at s + length s.prepared.items * certificate_size n
+state_seal_place n at s = prepared_place n at s + length (listed s.prepared) * certificate_size n
 
 -- the place after it
 abbrev pub state_end : ℕ → ℕ → ViewState → ℕ

@@ -2,7 +2,10 @@
 use Rattle.std.specs.Prelude.{◌≡◌, ℕ, ◌+◌, ◌^◌, ◌<◌, ◌≤◌, cond, List, [], ◌∷◌, length, is_some, Some, None, Option, slice_index_or}
 use Rattle.std.specs.List.{AllByRecursion}
 use Rattle.quorum.specs.Figures.{quorum_of}
+use Rattle.records.specs.Lists.{listed, filled}
+use Rattle.records.specs.Blanks.{blank_certificate, blank_state}
 use Rattle.records.specs.Reading.{last_view}
+use Rattle.records.specs.declared.few.Few.{Few}
 use Rattle.records.specs.declared.request.Request.{Request}
 use Rattle.records.specs.declared.request.Proposal.{Proposal}
 use Rattle.records.specs.declared.certificate.Certificate.{Certificate}
@@ -60,20 +63,26 @@ abbrev pub RightCommit : ℕ → Option Certificate → Type 0
 RightCommit n None = Unit {0}
 RightCommit n (Some c) = RightCertificate n c
 
+-- a short list that holds its values and then blanks
+abbrev pub Packed : {A : Type 0} → A → (size : ℕ) → Few A size → Type 0
+Packed blank size few = few ≡ filled blank size (listed few)
+
 pub record RightState (n : ℕ) (s : ViewState) : Type 0 where
   pub sender_fits : Byte s.sender
   pub view_high : s.view ≤ 999999
   pub commit_right : RightCommit n s.commit
-  pub prepared_few : length s.prepared.items ≤ 8
-  pub prepared_right : AllByRecursion (RightCertificate n) s.prepared.items
+  pub prepared_packed : Packed blank_certificate 8 s.prepared
+  pub prepared_few : length (listed s.prepared) ≤ 8
+  pub prepared_right : AllByRecursion (RightCertificate n) (listed s.prepared)
   pub seal_fits : Fits 8 s.seal
 
 pub record RightNewView (n : ℕ) (v : NewView) : Type 0 where
   pub sender_fits : Byte v.sender
   pub view_low : 1 ≤ v.view
   pub view_high : v.view ≤ last_view
-  pub states_many : length v.states.items ≡ quorum_of n
-  pub states_right : AllByRecursion (RightState n) v.states.items
+  pub states_packed : Packed blank_state 7 v.states
+  pub states_many : length (listed v.states) ≡ quorum_of n
+  pub states_right : AllByRecursion (RightState n) (listed v.states)
   pub seal_fits : Fits 8 v.seal
 
 -- a sender, a proposal and a seal

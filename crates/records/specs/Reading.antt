@@ -5,8 +5,10 @@ use Rattle.quorum.specs.declared.refusal.Fault.{Fault}
 use Rattle.quorum.specs.declared.refusal.Fault.TheVariants.{Unreadable, WrongSender}
 use Rattle.quorum.specs.Figures.{quorum_of}
 use Rattle.records.specs.Numbers.{number_of, shows}
+use Rattle.records.specs.Lists.{filled}
 use Rattle.records.specs.Marks.{mark_of, letters}
-use Rattle.arrayvec.specs.ArrayVec.{ArrayVec}
+use Rattle.records.specs.Blanks.{blank_certificate, blank_state}
+use Rattle.records.specs.declared.few.Few.{Few}
 use Rattle.records.specs.declared.marks.Mark.{Mark}
 use Rattle.records.specs.declared.marks.Mark.TheVariants as mark
 use Rattle.records.specs.declared.request.Request.{Request}
@@ -106,12 +108,12 @@ abbrev pub listed_at : ℕ → List ℕ → ℕ → ℕ → Result (Certificate 
 listed_at n bs i at = certificate_at n bs at then (λ c. Ok (c, at + certificate_size n))
 
 -- so many certificates, one after another
-abbrev pub gathered_at : ℕ → List ℕ → ℕ → ℕ → Result (ArrayVec Certificate × ℕ) Fault
+abbrev pub gathered_at : ℕ → List ℕ → ℕ → ℕ → Result (Few Certificate 8 × ℕ) Fault
 gathered_at n bs at count =
-    several (listed_at n bs) at count then (λ cs. Ok (record { items = cs.0 }, cs.1))
+    several (listed_at n bs) at count then (λ cs. Ok (filled blank_certificate 8 cs.0, cs.1))
 
 -- a count of 0 to 8, and that many certificates
-abbrev pub prepared_at : ℕ → List ℕ → ℕ → Result (ArrayVec Certificate × ℕ) Fault
+abbrev pub prepared_at : ℕ → List ℕ → ℕ → Result (Few Certificate 8 × ℕ) Fault
 prepared_at n bs at =
     number_at 1 bs at then (λ count. check (nat_le count 8) at (gathered_at n bs (at + 1) count))
 
@@ -164,9 +166,9 @@ abbrev pub member_at : ℕ → List ℕ → ℕ → ℕ → Result (ViewState ×
 member_at n bs i at = state_at n bs at
 
 -- so many view states, one after another
-abbrev pub members_at : ℕ → List ℕ → ℕ → ℕ → Result (ArrayVec ViewState × ℕ) Fault
+abbrev pub members_at : ℕ → List ℕ → ℕ → ℕ → Result (Few ViewState 7 × ℕ) Fault
 members_at n bs at count =
-    several (member_at n bs) at count then (λ states. Ok (record { items = states.0 }, states.1))
+    several (member_at n bs) at count then (λ states. Ok (filled blank_state 7 states.0, states.1))
 
 -- a new view, with the place after it; its count is the ring's quorum
 abbrev pub new_view_in : ℕ → List ℕ → Result (NewView × ℕ) Fault

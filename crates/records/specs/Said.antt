@@ -1,5 +1,6 @@
 -- A borrowed statement as the statement that it is.
 use Rattle.std.specs.Prelude.{ℕ}
+use Rattle.records.specs.Lists.{listed}
 use Rattle.records.specs.Statements.{Statement, asks, proposes, prepares, checks, informs, alerts, leaves, begins}
 use Rattle.records.specs.declared.request.Proposal.{Proposal}
 use Rattle.records.specs.declared.statement.Said.{Said}
@@ -14,8 +15,8 @@ meaning_of (said.Prepares i p) = prepares i p.now
 meaning_of (said.Checks i p) = checks i p.now
 meaning_of (said.Informs i) = informs i.now.sender i.now.proposal i.now.result
 meaning_of (said.Alerts f) = alerts f.now.sender f.now.view
-meaning_of (said.Leaves s) = leaves s.now.sender s.now.view s.now.commit s.now.prepared.items
-meaning_of (said.Begins v) = begins v.now.sender v.now.view v.now.states.items
+meaning_of (said.Leaves s) = leaves s.now.sender s.now.view s.now.commit (listed s.now.prepared)
+meaning_of (said.Begins v) = begins v.now.sender v.now.view (listed v.now.states)
 
 -- what a station's seal in a certificate says
 abbrev pub says : Support → ℕ → Proposal → Statement

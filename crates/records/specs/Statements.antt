@@ -2,6 +2,7 @@
 use Rattle.std.specs.Prelude.{◌≡◌, ℕ, ◌≤◌, List, [], ◌++◌, length, Option}
 use Rattle.std.specs.List.{AllByRecursion}
 use Rattle.quorum.specs.Figures.{quorum_of}
+use Rattle.records.specs.Lists.{listed}
 use Rattle.records.specs.Numbers.{put}
 use Rattle.records.specs.Range.{Byte, Bytes, Fits, RightProposal, RightCertificate, RightCommit, RightState}
 use Rattle.records.specs.Writing.{mark_bytes, head_bytes, claim_bytes, commit_bytes, prepared_bytes, seals_bytes, states_bytes, seal_of}
@@ -36,8 +37,8 @@ said_by (arrival.Propose p) = proposes p.sender p.proposal
 said_by (arrival.Prepare p) = prepares p.sender p.proposal
 said_by (arrival.CheckCommit c) = checks c.sender c.prepared.proposal
 said_by (arrival.Failure f) = alerts f.sender f.view
-said_by (arrival.ViewState s) = leaves s.sender s.view s.commit s.prepared.items
-said_by (arrival.NewView v) = begins v.sender v.view v.states.items
+said_by (arrival.ViewState s) = leaves s.sender s.view s.commit (listed s.prepared)
+said_by (arrival.NewView v) = begins v.sender v.view (listed v.states)
 
 abbrev pub statement_of : Record → Statement
 statement_of (rec.Request r) = asks r.client r.sequence r.payload.bytes

@@ -2,6 +2,7 @@
 use Rattle.std.specs.Prelude.{ℕ, List, [], ◌++◌, length, Some, None, Option}
 use Rattle.std.specs.List.{flat_map}
 use Rattle.records.specs.Numbers.{put, mask_of}
+use Rattle.records.specs.Lists.{listed}
 use Rattle.records.specs.Marks.{letters}
 use Rattle.records.specs.declared.marks.Mark.{Mark}
 use Rattle.records.specs.declared.marks.Mark.TheVariants as mark
@@ -60,7 +61,7 @@ prepared_bytes cs = put 1 (length cs) ++ flat_map certificate_bytes cs
 unfoldable pub state_body : ViewState → List ℕ
 state_body s =
     head_bytes mark.ViewState s.sender
-    ++ (put 4 s.view ++ (commit_bytes s.commit ++ prepared_bytes s.prepared.items))
+    ++ (put 4 s.view ++ (commit_bytes s.commit ++ prepared_bytes (listed s.prepared)))
 
 unfoldable pub state_bytes : ViewState → List ℕ
 state_bytes s = state_body s ++ put 8 s.seal
@@ -74,7 +75,7 @@ unfoldable pub states_bytes : List ViewState → List ℕ
 states_bytes ss = put 1 (length ss) ++ flat_map state_bytes ss
 
 unfoldable pub new_view_body : NewView → List ℕ
-new_view_body v = head_bytes mark.NewView v.sender ++ (put 4 v.view ++ states_bytes v.states.items)
+new_view_body v = head_bytes mark.NewView v.sender ++ (put 4 v.view ++ states_bytes (listed v.states))
 
 -- a check commit is a claim with the seals of its certificate
 unfoldable pub check_commit_body : CheckCommit → List ℕ

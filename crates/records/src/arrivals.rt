@@ -1,7 +1,7 @@
 // The records that stations send, and all records together.
 use crate::certificate::Certificate;
+use crate::few::Few;
 use crate::request::{Proposal, Request};
-use arrayvec::ArrayVec;
 
 // A station's word on a proposal. The kind of its record says which.
 #[derive(Clone, Copy, PartialEq, Eq, Debug, Default)]
@@ -43,26 +43,40 @@ pub struct Failure {
 }
 
 // What a station holds as it leaves a view: its last commit and the prepared lines above it.
-#[derive(Clone, Drop, Default)]
+#[derive(Clone, Copy, Default)]
 pub struct ViewState {
     pub sender: u8,
     pub view: u32,
     pub commit: Option<Certificate>,
-    pub prepared: ArrayVec<Certificate, 8>,
+    pub prepared: Few<Certificate, 8>,
     pub seal: u64,
 }
 
+impl ViewState {
+    // what fills a place that holds no view state
+    pub const BLANK: ViewState = ViewState {
+        sender: 0,
+        view: 0,
+        commit: None,
+        prepared: Few {
+            items: [Certificate::BLANK; 8],
+            len: 0,
+        },
+        seal: 0,
+    };
+}
+
 // The next primary's start of a view, from a quorum of view states.
-#[derive(Clone, Drop, Default)]
+#[derive(Clone, Copy, Default)]
 pub struct NewView {
     pub sender: u8,
     pub view: u32,
-    pub states: ArrayVec<ViewState, 7>,
+    pub states: Few<ViewState, 7>,
     pub seal: u64,
 }
 
 // What may arrive at a station from another.
-#[derive(Clone, Drop)]
+#[derive(Clone, Copy)]
 pub enum Arrival {
     Propose(Propose),
     Prepare(Prepare),
@@ -73,7 +87,7 @@ pub enum Arrival {
 }
 
 // Any record: a client's request, an answer to a client, or what stations send each other.
-#[derive(Clone, Drop)]
+#[derive(Clone, Copy)]
 pub enum Record {
     Request(Request),
     Inform(Inform),

@@ -8,4 +8,12 @@ pub struct Certificate {
     pub seals: [Option<u64>; 10],
 }
 
+impl Certificate {
+    // what fills a place that holds no certificate
+    pub const BLANK: Certificate = Certificate {
+        proposal: Proposal::BLANK,
+        seals: [None; 10],
+    };
+}
+
 pub mod sizes;

@@ -3,6 +3,7 @@
 
 pub mod arrivals;
 pub mod certificate;
+pub mod few;
 pub mod marks;
 pub mod places;
 pub mod request;

@@ -66,7 +66,7 @@ impl ViewState {
         ensures bound { result.end ≤ at + longest_state }
     {
         let prepared = after_commit(ring, at + 7, &self.commit) + 1;
-        let count = self.prepared.len();
+        let count = self.prepared.as_slice().len();
         let seal = prepared + count * certificate_size(ring);
         StatePlaces {
             commit: at + 8,

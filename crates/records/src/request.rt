@@ -17,3 +17,17 @@ pub struct Proposal {
     pub round: u32,
     pub request: Request,
 }
+
+impl Proposal {
+    // what fills a place that holds no proposal
+    pub const BLANK: Proposal = Proposal {
+        view: 0,
+        round: 0,
+        request: Request {
+            client: 0,
+            sequence: 0,
+            payload: Payload { bytes: [0; 16] },
+            seal: 0,
+        },
+    };
+}

@@ -2,16 +2,15 @@
 use Rattle.std.proofs.Common.{ℕ, ◌+◌, ◌≤◌, ◌++◌, length, ap, arith, length-append}
 use Rattle.quorum.specs.Limits.{longest_statement}
 use Rattle.records.specs.Numbers.{put}
-use Rattle.records.specs.Range.{RightRequest, RightProposal, RightState, RightArrival, RightInform}
+use Rattle.records.specs.Range.{RightRequest, RightProposal, RightState, RightArrival}
 use Rattle.records.specs.Statements.{said_bytes, said_by, statement_of, covered, rest_bytes, own_seal}
 use Rattle.records.specs.Said.{says}
-use Rattle.records.specs.Writing.{record_bytes, arrival_bytes, body_bytes, state_bytes, claim_bytes, head_bytes}
+use Rattle.records.specs.Writing.{record_bytes, arrival_bytes, body_bytes, state_bytes, head_bytes}
 use Rattle.records.specs.declared.marks.Mark.TheVariants as mark
 use Rattle.records.specs.declared.request.Request.{Request}
 use Rattle.records.specs.declared.request.Proposal.{Proposal}
 use Rattle.records.specs.declared.statement.Support.{Support}
 use Rattle.records.specs.declared.statement.Support.TheVariants as support
-use Rattle.records.specs.declared.arrivals.Inform.{Inform}
 use Rattle.records.specs.declared.arrivals.ViewState.{ViewState}
 use Rattle.records.specs.declared.arrivals.Arrival.{Arrival}
 use Rattle.records.specs.declared.arrivals.Arrival.TheVariants as arrival
@@ -48,14 +47,6 @@ state_short n few s h =
 
 pub request_short : (r : Request) → RightRequest r → length (said_bytes (statement_of (rec.Request r))) ≤ longest_statement
 request_short r h = let l = covered_length.1 r h in omega arith
-
-pub inform_short : (i : Inform) → RightInform i → length (said_bytes (statement_of (rec.Inform i))) ≤ longest_statement
-unfolding said_bytes
-inform_short i h =
-    let a = length-append (claim_bytes mark.Inform i.sender i.proposal) (put 8 i.result) in
-    let b = claim_length mark.Inform i.sender i.proposal h.claim_right.proposal_right in
-    let c = put_length 8 i.result in
-    omega arith
 
 pub arrival_short : (n : ℕ) → 1 ≤ n → n ≤ 10 → (a : Arrival) → RightArrival n a → length (said_bytes (said_by a)) ≤ longest_statement
 unfolding said_bytes

@@ -25,14 +25,17 @@ module _ (g : ℕ → List ℕ → ℕ → Bool) (n at next : ℕ) where
       ∙ ap (λ k. r then (λ _. first_false g (prepared_seals n k (drop (i + 1) cs)))) (sym e)
 
   -- one view state of a new view: its certificates, and its own seal
-  pub member_turn : (ss : List ViewState) (i : ℕ) (s : ViewState) → i < length ss → s ≡ get_or ss i s → next ≡ state_end n at s → first_false g (states_seals n at (drop i ss)) ≡ ((first_false g (state_seals n at s) then (λ _. first_false g (tried s.sender (state_says s) s.seal (state_seal_place n at s) ∷ []))) then (λ _. first_false g (states_seals n next (drop (i + 1) ss))))
-  member_turn ss i s h is e =
-      at_drop_more (λ l. first_false g (states_seals n at l)) ss i s h
-      ∙ ap (λ t. first_false g (states_seals n at (t ∷ drop (i + 1) ss))) (sym is)
+  pub member_turn : (ss : List ViewState) (i : ℕ) (d : ViewState) (r : Result (Unit {0}) Fault) → i < length ss → let s : ViewState = get_or ss i d in r ≡ (first_false g (state_seals n at s) then (λ _. first_false g (tried s.sender (state_says s) s.seal (state_seal_place n at s) ∷ []))) → next ≡ state_end n at s → first_false g (states_seals n at (drop i ss)) ≡ (r then (λ _. first_false g (states_seals n next (drop (i + 1) ss))))
+  member_turn ss i d r h t e =
+      at_drop_more (λ l. first_false g (states_seals n at l)) ss i d h
       ∙ false_append g (state_seals n at s) _
       ∙ regroup (first_false g (state_seals n at s)) (g s.sender (said_bytes (state_says s)) s.seal)
-      ∙ ap (λ k. (first_false g (state_seals n at s) then (λ _. first_false g (tried s.sender (state_says s) s.seal (state_seal_place n at s) ∷ []))) then (λ _. first_false g (states_seals n k (drop (i + 1) ss)))) (sym e)
+      ∙ ap (λ q. q then (λ _. first_false g (states_seals n (state_end n at s) (drop (i + 1) ss)))) (sym t)
+      ∙ ap (λ k. r then (λ _. first_false g (states_seals n k (drop (i + 1) ss)))) (sym e)
     where
+      s : ViewState
+      s = get_or ss i d
+
       own : ℕ
       own = state_seal_place n at s
 

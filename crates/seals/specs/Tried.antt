@@ -1,6 +1,7 @@
 -- The seals of a record, in the order in which they are tried: the record's own first, of a Propose then the request's,
 -- then by place those of certificates, and in a new view after each view state's certificates that view state's own.
 use Rattle.std.specs.Prelude.{ℕ, ◌+◌, ◌-◌, Bool, cond, List, [], ◌∷◌, ◌++◌, length, Some, None, Ok, Err, Option, Result}
+use Rattle.records.specs.Lists.{listed}
 use Rattle.quorum.specs.declared.refusal.Fault.{Fault}
 use Rattle.quorum.specs.declared.refusal.Fault.TheVariants.{NotGenuine}
 use Rattle.records.specs.Reading.{certificate_size}
@@ -49,7 +50,7 @@ commit_seals at (Some c) = certificate_seals checks (at + 1) c
 abbrev pub state_seals : ℕ → ℕ → ViewState → List Tried
 state_seals n at s =
     commit_seals (at + 7) s.commit
-    ++ prepared_seals n (prepared_place n at s) s.prepared.items
+    ++ prepared_seals n (prepared_place n at s) (listed s.prepared)
 
 -- what a view state's own seal says
 abbrev pub state_says : ViewState → Statement
@@ -77,7 +78,7 @@ inner_of n (arrival.Prepare p) = []
 inner_of n (arrival.CheckCommit c) = certificate_seals prepares 3 c.prepared
 inner_of n (arrival.Failure f) = []
 inner_of n (arrival.ViewState s) = state_seals n 0 s
-inner_of n (arrival.NewView v) = states_seals n 8 v.states.items
+inner_of n (arrival.NewView v) = states_seals n 8 (listed v.states)
 
 -- all seals of a record that arrives at a station of a ring of n
 abbrev pub seals_of : ℕ → Arrival → List Tried

@@ -1,8 +1,8 @@
 // What is admitted of what arrives: it is readable, from a right sender, within the chain rule, and its seals are genuine.
 ghost use Rattle.std.specs.Prelude.{◌≡◌, [], ◌∷◌, length};
 ghost use Rattle.quorum.specs.Rings.{stations_of};
-ghost use Rattle.records.specs.Range.{RightRequest, RightInform, RightArrival};
-ghost use Rattle.records.specs.Writing.{arrival_bytes};
+ghost use Rattle.records.specs.Range.{RightRequest, RightArrival};
+ghost use Rattle.records.specs.Writing.{arrival_bytes, record_bytes};
 ghost use Rattle.seals.specs.Tried.{request_seal, inner_of, seals_of, seals_of_inform, first_false};
 ghost use Rattle.seals.specs.Admitted.{primary_for, sender_of, admitted, submitted, heard};
 
@@ -13,7 +13,7 @@ use chain::links::check_chain;
 use quorum::figures::Ring;
 use quorum::refusal::Fault;
 use reader::reading::{read_arrival, read_inform, read_request};
-use records::arrivals::{Arrival, Inform};
+use records::arrivals::{Arrival, Inform, Record};
 use records::places::{PlacedState, REQUEST_SEAL, SEAL_SIZE};
 use records::request::Request;
 use records::statement::{Said, Support};
@@ -68,19 +68,16 @@ fn try_request<B: SealBox>(seals: &B, request: &Request, place: usize) -> Result
     )
 }
 
-// The seal of an inform.
-fn try_inform<B: SealBox>(seals: &B, inform: &Inform) -> Result<(), Fault>
-    requires { RightInform inform.now }
+// The seal of an inform, over the part of its bytes that stands before it.
+fn try_inform<B: SealBox>(seals: &B, inform: &Inform, bytes: &[u8]) -> Result<(), Fault>
+    requires { record_bytes (Record.Inform inform.now) ≡ bytes.now }
     ensures { result ≡ first_false (B.genuine seals.now) (seals_of_inform inform.now) }
 {
-    let signer = u16::from(inform.sender);
-    try_seal(
-        seals,
-        signer,
-        Said::Informs(inform),
-        inform.seal,
-        INFORM_SEAL_AT,
-    )
+    let statement = &bytes[..bytes.len() - SEAL_SIZE];
+    if !seals.ask(u16::from(inform.sender), statement, inform.seal) {
+        return Err(Fault::NotGenuine(INFORM_SEAL_AT));
+    }
+    Ok(())
 }
 
 // The seals inside a record.
@@ -141,6 +138,6 @@ pub fn admit_inform<B: SealBox>(seals: &B, ring: Ring, bytes: &[u8]) -> Result<I
     if inform.sender >= ring.stations() {
         return Err(Fault::WrongSender(SENDER_AT));
     }
-    try_inform(seals, &inform)?;
+    try_inform(seals, &inform, bytes)?;
     Ok(inform)
 }

@@ -2,6 +2,7 @@
 ghost use Rattle.std.specs.Prelude.{◌≡◌, ◌+◌, [], ◌∷◌};
 ghost use Rattle.std.specs.List.{AllByRecursion};
 ghost use Rattle.quorum.specs.Rings.{stations_of};
+ghost use Rattle.records.specs.Lists.{listed};
 ghost use Rattle.records.specs.Places.{prepared_place, state_seal_place};
 ghost use Rattle.records.specs.Range.{RightCertificate, RightCommit, RightState};
 ghost use Rattle.records.specs.Reading.{◌then◌};
@@ -33,8 +34,8 @@ fn try_commit<B: SealBox>(seals: &B, placed: PlacedState<'_>) -> Result<(), Faul
 
 // The seals of the prepared certificates.
 fn try_prepared<B: SealBox>(seals: &B, placed: PlacedState<'_>) -> Result<(), Fault>
-    requires { AllByRecursion (RightCertificate (stations_of placed.ring)) placed.state.now.prepared.items }
-    ensures { result ≡ first_false (B.genuine seals.now) (prepared_seals (stations_of placed.entry.ring) (prepared_place (stations_of placed.entry.ring) placed.entry.at placed.entry.state.now) placed.entry.state.now.prepared.items) }
+    requires { AllByRecursion (RightCertificate (stations_of placed.ring)) (listed placed.state.now.prepared) }
+    ensures { result ≡ first_false (B.genuine seals.now) (prepared_seals (stations_of placed.entry.ring) (prepared_place (stations_of placed.entry.ring) placed.entry.at placed.entry.state.now) (listed placed.entry.state.now.prepared)) }
 {
     let size = certificate_size(placed.ring);
     let first = placed.places().prepared;
@@ -69,8 +70,8 @@ fn try_member<B: SealBox>(seals: &B, placed: PlacedState<'_>) -> Result<(), Faul
 
 // The seals of the view states of a new view.
 pub(crate) fn try_states<B: SealBox>(seals: &B, ring: Ring, view: &NewView) -> Result<(), Fault>
-    requires { AllByRecursion (RightState (stations_of ring)) view.now.states.items }
-    ensures { result ≡ first_false (B.genuine seals.now) (states_seals (stations_of ring) 8 view.now.states.items) }
+    requires { AllByRecursion (RightState (stations_of ring)) (listed view.now.states) }
+    ensures { result ≡ first_false (B.genuine seals.now) (states_seals (stations_of ring) 8 (listed view.now.states)) }
 {
     let mut at = FIRST_STATE;
     for state in view.states.as_slice() {

@@ -1,20 +1,25 @@
--- The largest count of the words is the most of a row.
-use Rattle.std.proofs.Common.{◌≡◌, unwrap_or, ap, ◌∙◌, rules, tests, arith}
-use Rattle.std.proofs.lemmas.Iterator.{YieldsList-from_slice, YieldsList-from_map}
-use Rattle.std.proofs.lemmas.Iterator.Consumers.{reduce_from_yields_List}
-use Rattle.std.proofs.lemmas.List.Folds.{max_of_map}
-use Rattle.tally.specs.Tallies.{shared}
+-- The largest count of the words is the most of a row; a word that is not counted could not make it larger.
+use Rattle.std.proofs.Common.{◌≡◌, sym, ◌∙◌, arith}
 use Rattle.informs.specs.Agreed.{most_alike}
-use Rattle.informs.proofs.Rows.{signed, agrees, most_is, most_in_ring}
+use Rattle.informs.proofs.Most.{larger_counted, larger_skipped, larger_end}
+use Rattle.informs.proofs.Rows.{most_is, most_in_ring}
 use Rattle.informs.proofs.agreed.most.Goals as goal
+use Rattle.informs.proofs.agreed.most.Goals.{then-most-words, else-most-words}
 
-largest : (c : goal.After-unwrap_or) → c.unwrap_or.result ≡ most_alike c.args.heard.now
+pub loop-word-preserved : goal.loop-word-preserved
+loop-word-preserved c =
+    elim c.if-most-words.branch [
+      | then-most-words w ↦
+          sym (larger_counted c.as_slice-words.result.now c.loop-word.word-index c.loop-word.most w.count.result c.if-most-words.most _ c.loop-word-test.true w.count.ensures (omega (arith, w.most-is, w.max-most.ensures))) ∙ c.loop-word.invariant
+      | else-most-words w ↦
+          sym (larger_skipped c.as_slice-words.result.now c.loop-word.word-index c.loop-word.most c.if-most-words.most c.loop-word-test.true w.if-most-words.false w.most-is) ∙ c.loop-word.invariant
+    ]
+
+largest : (c : goal.After-loop-word) → c.loop-word.most ≡ most_alike c.args.heard.now
 largest c =
-    let words = c.as_slice-words.result.now in
-    c.unwrap_or.ensures
-    ∙ ap (λ o. unwrap_or o 0) (reduce_from_yields_List _ c.map-counts.result _ c.max.ensures.ran (YieldsList-from_map _ (shared signed agrees words) (YieldsList-from_slice words cc) c.map-counts.ensures.closure (λ x b q k. search (rules, tests))))
-    ∙ max_of_map (shared signed agrees words) words
-    ∙ most_is 10 c.args.heard.now words c.requires (c.as_slice-words.ensures.value ∙ c.gathered-informs.ensures)
+    sym (larger_end c.as_slice-words.result.now c.loop-word.word-index c.loop-word.most c.loop-word-test.false)
+    ∙ c.loop-word.invariant
+    ∙ most_is 10 c.args.heard.now c.as_slice-words.result.now c.requires (c.as_slice-words.ensures.value ∙ c.gathered-informs.ensures)
 
 pub overflow_cast-result : goal.overflow_cast-result
 overflow_cast-result c =

@@ -1,6 +1,7 @@
 -- The view states stand behind their count, one after another, as the closure reads each.
 use Rattle.std.proofs.Common.{◌≡◌, ◌∙◌, subst, arith, rules}
 use Rattle.quorum.specs.Rings.{stations_of}
+use Rattle.records.specs.Blanks.{blank_state}
 use Rattle.records.specs.Reading.{state_at, members_at}
 use Rattle.reader.specs.Cursor.{list_of, with_place}
 use Rattle.reader.proofs.Cursors.{value_on}
@@ -14,7 +15,7 @@ states_read c e =
     let read = c.several.ensures (state_at (stations_of c.args.ring)) (λ p q r h. search rules) in (
       read.same ∙ same,
       subst (λ k. with_place c.several.result c.several.new.self.at ≡ members_at (stations_of c.args.ring) c.args.self.now.bytes.now 8 k) c.from.ensures
-          (value_on (list_of (state_at (stations_of c.args.ring)) c.from.result) same at read),
+          (value_on (list_of blank_state 7 (state_at (stations_of c.args.ring)) c.from.result) same at read),
     )
 
 pub returns-in_err-states : goal.returns-in_err-states
